@@ -1,7 +1,6 @@
 -- `aiger_binary::put_counts` meets its contract: four numbers, one behind the other.
 
 use native.Mathlib.Omega.{arith}
-use borrow.Author.Rules.{rules}
 use Rattle.model.proofs.Wrote.{wrote_then}
 use Rattle.aiger_binary.proofs.BinaryText.{counts-text}
 use Rattle.aiger_binary.proofs.put_counts.Goals as goal

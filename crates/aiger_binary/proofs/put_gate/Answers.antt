@@ -1,7 +1,6 @@
 -- `aiger_binary::put_gate` meets its contract: one difference, and the other behind it.
 
 use native.Mathlib.Omega.{arith}
-use borrow.Author.Rules.{rules}
 use Rattle.model.proofs.Wrote.{wrote_then}
 use Rattle.aiger_binary.specs.BinaryText.{gate_text}
 use Rattle.aiger_binary.proofs.put_gate.Goals as goal

@@ -2,7 +2,6 @@
 
 use Prim.Native.Nat.{◌+◌}
 use native.Mathlib.Omega.{arith}
-use borrow.Author.Rules.{rules}
 use Rattle.model.proofs.Wrote.{wrote_then}
 use Rattle.aiger_binary.proofs.BinaryText.{header-text}
 use Rattle.aiger_binary.proofs.put_header.Goals as goal

@@ -2,7 +2,6 @@
 
 use mathlib.Core.List.{[], ◌∷◌}
 use native.Mathlib.Omega.{arith}
-use borrow.Author.Rules.{rules}
 use lib.ListN.{length-append}
 use Rattle.decimal.specs.Digits.{digits}
 use Rattle.decimal.proofs.Digits.{length-digits-most}

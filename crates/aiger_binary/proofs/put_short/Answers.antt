@@ -1,7 +1,6 @@
 -- `aiger_binary::put_short` meets its contract.
 
 use native.Mathlib.Omega.{arith}
-use borrow.Author.Rules.{rules}
 use Rattle.aiger_difference.proofs.Difference.{length-bytes-two}
 use Rattle.aiger_binary.proofs.put_short.Goals as goal
 

@@ -1,12 +1,8 @@
 -- `aiger_codes::put_codes` meets its contract. The loop's invariant: x lines are read, and their codes are in the list.
 
-use Prim.Native.Nat.{ℕ, ◌+◌, ◌-◌, ◌≤◌}
-use mathlib.Core.Path.{◌≡◌, sym, subst}
-use native.Mathlib.Omega.{arith}
-use borrow.Author.Rules.{rules}
+use Prim.Native.Nat.{◌+◌, ◌-◌, ◌≤◌}
 use Rattle.aiger_lines.specs.Steps.{Behind}
 use Rattle.aiger_codes.specs.Filling.{codes_behind, ListFilled}
-use Rattle.aiger_codes.proofs.Filling.{five-long, list-none, codes-next}
 use Rattle.aiger_codes.proofs.put_codes.Given as goal
 
 abbrev pub invariant-loop-x : goal.invariant-loop-x

@@ -3,7 +3,6 @@
 use Prim.Native.Nat.{◌+◌}
 use mathlib.Core.Path.{◌∙◌}
 use native.Mathlib.Omega.{arith}
-use borrow.Author.Rules.{rules}
 use Rattle.aiger_graph.specs.RecordAig.{control_output}
 use Rattle.aiger_codes.proofs.Outputs.{output-at}
 use Rattle.aiger_codes.proofs.put_control.Goals as goal

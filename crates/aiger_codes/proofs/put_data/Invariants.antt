@@ -1,12 +1,8 @@
 -- `aiger_codes::put_data` meets its contract. The loop's invariant: t codes are in the record, and nothing else has changed.
 
 use Prim.Native.Nat.{◌+◌, ◌-◌, ◌≤◌}
-use mathlib.Core.Path.{◌≡◌, refl, ◌∙◌, ap}
-use native.Mathlib.Omega.{arith}
-use lib.ListN.{set}
-use Rattle.netlist.specs.declared.Netlist.{Netlist}
+use mathlib.Core.Path.{◌≡◌}
 use Rattle.aiger_codes.specs.Outputs.{output_code, Coded, with_data}
-use Rattle.aiger_codes.proofs.Outputs.{coded_none, coded-next, output-at}
 use Rattle.aiger_codes.proofs.put_data.Given as goal
 
 abbrev pub invariant-loop-t : goal.invariant-loop-t

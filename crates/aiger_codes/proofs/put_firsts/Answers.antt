@@ -1,10 +1,9 @@
 -- `aiger_codes::put_firsts` meets its contract. The loop's invariant: x lines are read, and their first numbers are in the table.
 
-use Prim.Native.Nat.{ℕ, ◌+◌, ◌-◌, ◌≤◌}
+use Prim.Native.Nat.{ℕ, ◌+◌, ◌-◌}
 use mathlib.Core.Path.{◌≡◌, refl, sym, subst}
 use native.Mathlib.Omega.{arith}
 use Rattle.aiger_lines.specs.Steps.{Behind}
-use Rattle.aiger_codes.specs.Filling.{firsts_behind, entry_of, put_from, TableFilled}
 use Rattle.aiger_codes.proofs.Filling.{five-long, firsts-none, firsts-next}
 use Rattle.aiger_codes.proofs.put_firsts.Goals as goal
 

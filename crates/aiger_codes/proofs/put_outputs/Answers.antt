@@ -1,6 +1,5 @@
 -- `aiger_codes::put_outputs` meets its contract: one kind of codes after the other.
 
-use borrow.Author.Rules.{rules}
 use Rattle.aiger_codes.proofs.Outputs.{address-sizes, no-data, data-sizes, control-sizes, outputs-put}
 use Rattle.aiger_codes.proofs.put_outputs.Goals as goal
 

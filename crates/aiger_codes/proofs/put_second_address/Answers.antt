@@ -6,7 +6,7 @@ use native.Mathlib.Omega.{arith}
 use native.Mathlib.Nat.{mul-le-mul_right}
 use lib.ListN.{set}
 use Rattle.netlist.specs.declared.Netlist.{Netlist}
-use Rattle.aiger_codes.specs.Outputs.{output_code, Coded, with_second}
+use Rattle.aiger_codes.specs.Outputs.{output_code, with_second}
 use Rattle.aiger_codes.proofs.Outputs.{coded_none, coded-next, output-at}
 use Rattle.aiger_codes.proofs.put_second_address.Goals as goal
 use Rattle.aiger_codes.proofs.put_second_address.Goals.{Start}

@@ -2,7 +2,6 @@
 
 use native.Mathlib.Numerals.{add-one}
 use native.Mathlib.Omega.{arith}
-use borrow.Author.Rules.{rules}
 use Rattle.model.specs.Gather.{gather}
 use Rattle.netlist.specs.RecordOf.{record_of}
 use Rattle.aiger_codes.proofs.text_sizes.Goals as goal
@@ -18,4 +17,4 @@ overflow_cast-result c = omega arith
 
 pub returns : goal.returns
 unfolding record_of gather
-returns c = rw (add-one c.args.second-port)
+returns c = rw (add-one c.args.second_port)

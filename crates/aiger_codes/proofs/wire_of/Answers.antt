@@ -1,8 +1,8 @@
 -- `aiger_codes::wire_of` meets its contract. The loop's invariant: no wire before w has the variable.
 
-use Prim.Native.Nat.{◌-◌, ◌≤◌}
+use Prim.Native.Nat.{◌-◌}
 use native.Mathlib.Omega.{arith}
-use Rattle.aiger_codes.proofs.WireTable.{NotBefore, found_at, not-before-next}
+use Rattle.aiger_codes.proofs.WireTable.{found_at, not-before-next}
 use Rattle.aiger_codes.proofs.wire_of.Goals as goal
 
 pub loop-w-init : goal.loop-w-init
@@ -32,5 +32,5 @@ loop-w-preserved c =
     (omega arith, not-before-next c.args.table.now c.args.variable c.loop-w.w c.loop-w.invariant.1 c.if-table-at.false)
 
 pub returns : goal.returns
-returns c =
+returns-then-table-at c =
     (found_at c.args.table.now c.args.variable c.loop-w.w (omega arith) c.loop-w.invariant.1 (λ l. absurd (omega arith)), omega arith)

@@ -1,8 +1,7 @@
 -- `aiger_codes::wire_of` meets its contract. The loop's invariant: no wire before w has the variable.
 
 use Prim.Native.Nat.{◌-◌, ◌≤◌}
-use native.Mathlib.Omega.{arith}
-use Rattle.aiger_codes.proofs.WireTable.{NotBefore, found_at, not-before-next}
+use Rattle.aiger_codes.proofs.WireTable.{NotBefore}
 use Rattle.aiger_codes.proofs.wire_of.Given as goal
 
 abbrev pub invariant-loop-w : goal.invariant-loop-w

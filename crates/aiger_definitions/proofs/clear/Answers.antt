@@ -1,11 +1,10 @@
 -- `aiger_definitions::clear` meets its contract. The loop's invariant: the first i entries are no marks.
 
-use Prim.Native.Nat.{ℕ, ◌-◌, ◌≤◌, ◌<◌}
-use mathlib.Core.Path.{◌≡◌, refl}
-use mathlib.Core.Bool.{false}
+use Prim.Native.Nat.{◌-◌}
+use mathlib.Core.Path.{refl}
 use native.Mathlib.Omega.{arith}
 use borrow.Author.Rules.{rules}
-use lib.ListN.{length, get_or, length-set}
+use lib.ListN.{length-set}
 use Rattle.aiger_definitions.proofs.Marks.{cleared_more}
 use Rattle.aiger_definitions.proofs.clear.Goals as goal
 

@@ -1,12 +1,9 @@
 -- `aiger_definitions::clear` meets its contract. The loop's invariant: the first i entries are no marks.
 
 use Prim.Native.Nat.{ℕ, ◌-◌, ◌≤◌, ◌<◌}
-use mathlib.Core.Path.{◌≡◌, refl}
+use mathlib.Core.Path.{◌≡◌}
 use mathlib.Core.Bool.{false}
-use native.Mathlib.Omega.{arith}
-use borrow.Author.Rules.{rules}
-use lib.ListN.{length, get_or, length-set}
-use Rattle.aiger_definitions.proofs.Marks.{cleared_more}
+use lib.ListN.{length, get_or}
 use Rattle.aiger_definitions.proofs.clear.Given as goal
 
 abbrev pub invariant-loop-i : goal.invariant-loop-i

@@ -1,6 +1,5 @@
 -- `aiger_definitions::fault_in_block` meets its contract.
 
-use borrow.Author.Rules.{rules}
 use Rattle.aiger_definitions.proofs.fault_in_block.Goals as goal
 
 pub returns-in-Repeated : goal.returns-in-Repeated

@@ -1,11 +1,9 @@
 -- `aiger_definitions::first_fault` meets its contract. The loop's invariant: no variable below the block has a fault before the first that was found.
 
 use Prim.Native.Nat.{◌-◌, ◌≤◌}
-use mathlib.Core.Path.{◌≡◌, sym, ◌∙◌}
-use native.Mathlib.Omega.{arith}
+use mathlib.Core.Path.{◌≡◌}
 use lib.ListN.{length}
 use Rattle.aiger_definitions.specs.Blocks.{fault_of, Judged}
-use Rattle.aiger_definitions.proofs.Blocks.{judged-start, judged-on, judged-to}
 use Rattle.aiger_definitions.proofs.first_fault.Given as goal
 
 abbrev pub invariant-loop-base : goal.invariant-loop-base

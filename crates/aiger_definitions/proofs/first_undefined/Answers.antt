@@ -2,7 +2,6 @@
 
 use native.Mathlib.Omega.{arith}
 use Rattle.aiger_definitions.proofs.Definitions.{undefined-first}
-use borrow.Author.Rules.{rules}
 use Rattle.aiger_definitions.proofs.first_undefined.Goals as goal
 
 pub first_fault-requires : goal.first_fault-requires

@@ -2,7 +2,6 @@
 
 use borrow.Author.Tests.{lt-leb, le-leb, le-ltb, lt-ltb}
 use Rattle.aiger_definitions.specs.Blocks.{is_found}
-use borrow.Author.Rules.{rules}
 use Rattle.aiger_definitions.proofs.is_found.Goals as goal
 
 pub returns-then-v-base : goal.returns-then-v-base
@@ -15,4 +14,4 @@ returns-then-marks-x c = rw (le-leb _ _ c.if-v-base.false, le-ltb _ _ c.if-marks
 
 pub returns : goal.returns
 unfolding is_found
-returns c = rw (le-leb _ _ c.if-v-base.false, lt-ltb _ _ c.if-marks-x.false)
+returns-then-v-base c = rw (le-leb _ _ c.if-v-base.false, lt-ltb _ _ c.if-marks-x.false)

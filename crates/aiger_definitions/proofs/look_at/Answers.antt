@@ -2,7 +2,6 @@
 
 use borrow.Author.Tests.{le-ltb, lt-ltb}
 use Rattle.aiger_definitions.specs.Blocks.{looked_at}
-use borrow.Author.Rules.{rules}
 use Rattle.aiger_definitions.proofs.look_at.Goals as goal
 
 pub returns-then-line-found : goal.returns-then-line-found

@@ -4,7 +4,6 @@ use mathlib.Core.Path.{sym}
 use borrow.Author.Tests.{lt-leb, le-leb}
 use lib.Seq.{set_out}
 use Rattle.aiger_definitions.specs.Blocks.{with_mark}
-use borrow.Author.Rules.{rules}
 use Rattle.aiger_definitions.proofs.mark.Goals as goal
 
 pub returns-then-x-marks : goal.returns-then-x-marks

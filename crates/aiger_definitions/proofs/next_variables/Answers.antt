@@ -2,7 +2,6 @@
 
 use Prim.Native.Nat.{◌+◌}
 use Rattle.aiger_definitions.proofs.LineVariables.{variables-read}
-use borrow.Author.Rules.{rules}
 use Rattle.aiger_definitions.proofs.next_variables.Goals as goal
 
 pub returns : goal.returns

@@ -3,12 +3,9 @@
 use Prim.Native.Nat.{◌+◌, ◌-◌, ◌<◌}
 use mathlib.Core.Path.{◌≡◌, refl, ◌∙◌}
 use native.Mathlib.Omega.{arith}
-use borrow.Author.Rules.{rules}
 use lib.ListN.{length}
-use Rattle.aiger_lines.specs.Parts.{counts_in}
-use Rattle.aiger_lines.specs.Steps.{Behind}
 use Rattle.aiger_definitions.proofs.Marks.{length-with_mark}
-use Rattle.aiger_definitions.proofs.Passes.{Passed, pass-starts, pass-next, all-marked}
+use Rattle.aiger_definitions.proofs.Passes.{pass-starts, pass-next, all-marked}
 use Rattle.aiger_definitions.proofs.pass.Goals as goal
 
 pub loop-line-init : goal.loop-line-init

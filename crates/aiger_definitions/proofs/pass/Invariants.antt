@@ -1,14 +1,11 @@
 -- `aiger_definitions::pass` meets its contract. The loop's invariant: the lines passed were looked at, and the next begins at `at`.
 
-use Prim.Native.Nat.{◌+◌, ◌-◌, ◌<◌}
-use mathlib.Core.Path.{◌≡◌, refl, ◌∙◌}
-use native.Mathlib.Omega.{arith}
-use borrow.Author.Rules.{rules}
+use Prim.Native.Nat.{◌-◌}
+use mathlib.Core.Path.{◌≡◌}
 use lib.ListN.{length}
 use Rattle.aiger_lines.specs.Parts.{counts_in}
 use Rattle.aiger_lines.specs.Steps.{Behind}
-use Rattle.aiger_definitions.proofs.Marks.{length-with_mark}
-use Rattle.aiger_definitions.proofs.Passes.{Passed, pass-starts, pass-next, all-marked}
+use Rattle.aiger_definitions.proofs.Passes.{Passed}
 use Rattle.aiger_definitions.proofs.pass.Given as goal
 
 abbrev pub invariant-loop-line : goal.invariant-loop-line

@@ -1,7 +1,6 @@
 -- `aiger_definitions::repeat_in_block` meets its contract.
 
 use Rattle.aiger_definitions.proofs.Passes.{cleared-ready}
-use borrow.Author.Rules.{rules}
 use Rattle.aiger_definitions.proofs.repeat_in_block.Goals as goal
 
 pub pass-requires : goal.pass-requires

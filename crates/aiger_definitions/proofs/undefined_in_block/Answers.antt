@@ -4,7 +4,6 @@ use mathlib.Core.Path.{◌∙◌}
 use native.Mathlib.Omega.{arith}
 use Rattle.aiger_definitions.proofs.Blocks.{judged-either, min-above}
 use Rattle.aiger_definitions.proofs.Passes.{cleared-ready}
-use borrow.Author.Rules.{rules}
 use Rattle.aiger_definitions.proofs.undefined_in_block.Goals as goal
 
 pub pass-operands-requires : goal.pass-operands-requires

@@ -1,6 +1,5 @@
 -- `aiger_definitions::uses_of` meets its contract.
 
-use borrow.Author.Rules.{rules}
 use Rattle.aiger_definitions.proofs.uses_of.Goals as goal
 
 pub returns-in-Repeats : goal.returns-in-Repeats

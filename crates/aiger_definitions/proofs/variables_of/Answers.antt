@@ -1,6 +1,5 @@
 -- `aiger_definitions::variables_of` meets its contract.
 
-use borrow.Author.Rules.{rules}
 use Rattle.aiger_definitions.proofs.variables_of.Goals as goal
 
 pub returns-in-Header : goal.returns-in-Header

@@ -2,7 +2,6 @@
 
 use mathlib.Core.Path.{sym, ap}
 use native.Mathlib.Omega.{arith}
-use borrow.Author.Rules.{rules}
 use lib.Count.{leading_le}
 use lib.ListN.{length}
 use Rattle.aiger_difference.proofs.Difference.{bytes-single, zeros-bytes}
@@ -15,4 +14,4 @@ pub overflow_sub-result : goal.overflow_sub-result
 overflow_sub-result c = omega (arith, leading_le 32 c.args.x)
 
 pub returns : goal.returns
-returns c = sym (zeros-bytes c.args.x (omega arith) c.ranges.x.fits)
+returns-then-x-eq0 c = sym (zeros-bytes c.args.x (omega arith) c.ranges.x.fits)

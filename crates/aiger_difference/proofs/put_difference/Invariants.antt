@@ -1,15 +1,11 @@
 -- `aiger_difference::put_difference` meets its contract. The loop's invariant: what is written and the bytes of `rest` are the bytes of x.
 
-use Prim.Native.Nat.{ℕ, ◌+◌, ◌-◌, ◌/◌, ◌%◌, ◌≤◌, ◌<◌}
-use mathlib.Core.Path.{◌≡◌, refl, sym, ap, ◌∙◌}
-use mathlib.Core.List.{List, [], ◌∷◌, ◌++◌, append_assoc}
-use native.Mathlib.Omega.{arith}
-use borrow.Author.Rules.{rules}
-use lib.ListN.{length, set, length-set}
+use Prim.Native.Nat.{ℕ, ◌+◌, ◌-◌, ◌≤◌}
+use mathlib.Core.Path.{◌≡◌}
+use mathlib.Core.List.{List, ◌++◌}
+use lib.ListN.{length}
 use Rattle.model.specs.Wrote.{Wrote}
-use Rattle.text_writer.proofs.Writing.{wrote-next}
 use Rattle.aiger_difference.specs.Difference.{difference_bytes}
-use Rattle.aiger_difference.proofs.Difference.{bytes-single, bytes-more, length-bytes-some, single-below, more-from}
 use Rattle.aiger_difference.proofs.put_difference.Given as goal
 
 -- what is written, before what is still to be

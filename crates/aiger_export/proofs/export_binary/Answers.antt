@@ -26,7 +26,7 @@ returns-in-Refused c =
     (rw v, (rw v, exported))
 
 -- the record passes its tests
-passed : (c : In_default) → test_export (net_of c.args.net c.args.latches.now c.args.gates.now) c.args.latch-count c.args.gate-count ≡ Passed
+passed : (c : In_default) → test_export (net_of c.args.net c.args.latches.now c.args.gates.now) c.args.latch_count c.args.gate_count ≡ Passed
 passed c = sym c.test_export.ensures ∙ c.in_default.is
 
 single : (c : In_default) → c.args.net.second_port ≡ 0
@@ -61,7 +61,7 @@ write_word-requires c =
 
 pub returns : goal.returns
 unfolding print_reply export_verdict export_sent export_leaves with_count contents_after ◌then◌
-returns c =
+returns-in-Refused c =
     let v = passed (goal.at.returns c).In_default in
     let w = c.put_file-count.ensures.0 in
     let x = rw (wrote-front w) at c.write_word.ensures in

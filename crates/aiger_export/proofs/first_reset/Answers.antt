@@ -1,6 +1,6 @@
 -- `aiger_export::first_reset` meets its contract. The loop's invariant: none of the first l latches has reset 1.
 
-use Prim.Native.Nat.{ℕ, ◌-◌, ◌≤◌, ◌<◌}
+use Prim.Native.Nat.{◌-◌}
 use mathlib.Core.Path.{◌≡◌}
 use mathlib.Core.Bool.{false}
 use native.Mathlib.Nat.{not-suc-le-zero}
@@ -52,7 +52,7 @@ loop-l-preserved c =
     )
 
 pub returns : goal.returns
-returns c =
+returns-then-latches-at-eq1 c =
     let all : c.loop-l.l ≡ c.args.count = omega arith in
     first-unique
     (record { within = omega arith; none_before = rw all at c.loop-l.invariant.1; holds-there = λ l. absurd (omega arith) })

@@ -3,13 +3,7 @@
 use Prim.Native.Nat.{ℕ, ◌-◌, ◌≤◌, ◌<◌}
 use mathlib.Core.Path.{◌≡◌}
 use mathlib.Core.Bool.{false}
-use native.Mathlib.Nat.{not-suc-le-zero}
-use native.Mathlib.Numerals.{add-one}
-use native.Mathlib.Omega.{arith}
 use lib.Dec.{eqb}
-use borrow.Author.Tests.{eq-eqb, ne_eqb}
-use Rattle.model.proofs.Below.{all-below-suc}
-use Rattle.model.proofs.Search.{first_where-is, first-unique}
 use Rattle.netlist.specs.NetOf.{second_at}
 use Rattle.aiger_export.proofs.first_reset.Given as goal
 

@@ -3,7 +3,6 @@
 use Prim.Native.Nat.{◌≤◌}
 use mathlib.Core.Path.{◌≡◌, sym, ◌∙◌}
 use native.Mathlib.Omega.{arith}
-use borrow.Author.Rules.{rules}
 use borrow.Author.Tests.{lt-ltb, le-ltb}
 use Rattle.refusals.specs.Tests.{◌then◌}
 use Rattle.refusals.specs.declared.Verdict.TheVariants.{Passed}
@@ -22,7 +21,7 @@ returns-in-Refused c =
 
 -- the record passes its own tests, so its sizes are within their limits
 module _ (c : In_default) where
-  passed : record_verdict (net_of c.args.net c.args.latches.now c.args.gates.now) c.args.latch-count c.args.gate-count ≡ Passed
+  passed : record_verdict (net_of c.args.net c.args.latches.now c.args.gates.now) c.args.latch_count c.args.gate_count ≡ Passed
   passed = sym c.test_record-record.ensures ∙ c.in_default.is
 
   latches-fit : c.args.net.latches ≤ 600
@@ -46,5 +45,5 @@ returns-then-l-net c =
 
 pub returns : goal.returns
 unfolding net_of test_export test_resets ◌then◌
-returns c =
+returns-in-Refused c =
     rw (passed (goal.at.returns c).In_default, le-ltb 0 _ c.if-net-gt0.false, ← c.first_reset-l.ensures, le-ltb _ _ c.if-l-net.false)

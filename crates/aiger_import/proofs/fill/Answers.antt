@@ -2,7 +2,6 @@
 
 use mathlib.Core.Path.{refl}
 use native.Mathlib.Omega.{arith}
-use borrow.Author.Rules.{rules}
 use Rattle.aiger_lines.specs.Parts.{counts_in}
 use Rattle.aiger_import.proofs.Sized.{sized, ahead}
 use Rattle.aiger_import.proofs.Net.{lists-none, no-outputs, filled}

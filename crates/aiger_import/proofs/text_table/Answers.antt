@@ -4,7 +4,6 @@ use Prim.Native.Nat.{ℕ, ◌+◌, ◌*◌}
 use mathlib.Core.Path.{◌≡◌, refl, subst}
 use native.Mathlib.Omega.{arith}
 use lib.ListN.{replicate}
-use borrow.Author.Rules.{rules}
 use Rattle.aiger_lines.specs.Parts.{counts_in}
 use Rattle.aiger_lines.specs.Steps.{Behind}
 use Rattle.aiger_import.proofs.Sized.{sized, ahead}

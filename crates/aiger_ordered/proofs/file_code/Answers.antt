@@ -1,7 +1,6 @@
 -- `aiger_ordered::file_code` meets its contract.
 
 use native.Mathlib.Omega.{arith}
-use borrow.Author.Rules.{rules}
 use Rattle.model.specs.Network.{renamed}
 use Rattle.aiger_ordered.proofs.file_code.Goals as goal
 

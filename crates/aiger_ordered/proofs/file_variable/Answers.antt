@@ -2,7 +2,6 @@
 
 use mathlib.Core.Path.{sym}
 use native.Mathlib.Omega.{arith}
-use borrow.Author.Rules.{rules}
 use Rattle.aiger_ordered.proofs.OrderedAig.{input-kept, latch-moved, read-moved, gate-kept}
 use Rattle.aiger_ordered.proofs.file_variable.Goals as goal
 
@@ -16,4 +15,4 @@ pub returns-then-w-latch-3 : goal.returns-then-w-latch-3
 returns-then-w-latch-3 c = (sym (read-moved c.args.order c.args.wire.0 (omega arith) (omega arith)), omega arith)
 
 pub returns : goal.returns
-returns c = (sym (gate-kept c.args.order c.args.wire.0 (omega arith)), omega arith)
+returns-then-w-latch c = (sym (gate-kept c.args.order c.args.wire.0 (omega arith)), omega arith)

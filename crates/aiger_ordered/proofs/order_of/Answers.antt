@@ -1,6 +1,5 @@
 -- `aiger_ordered::order_of` meets its contract.
 
-use borrow.Author.Rules.{rules}
 use Rattle.netlist.specs.NetOf.{net_of}
 use Rattle.aiger_ordered.proofs.order_of.Goals as goal
 

@@ -4,7 +4,6 @@ use Prim.Native.Nat.{◌+◌, ◌*◌}
 use mathlib.Core.Path.{◌≡◌}
 use native.Mathlib.Nat.{zero-mul}
 use native.Mathlib.Omega.{arith}
-use borrow.Author.Rules.{rules}
 use borrow.Author.Tests.{lt-ltb, le-ltb, eq-eqb, ne_eqb}
 use Rattle.netlist.specs.NetOf.{net_of, code_of}
 use Rattle.netlist.specs.declared.Netlist.{Netlist}
@@ -62,7 +61,7 @@ returns-then-output-control-3 c =
 
 pub returns : goal.returns
 unfolding net_of code_of output_of
-returns c =
+returns-then-output-data c =
     let control = control_output c.args.net.m c.args.net.n c.args.net.second_port in
     let single = none c.args.net c.requires.2 in
     rw (

@@ -1,6 +1,5 @@
 -- `aiger_tests::has_wrong_interface` meets its contract: inputs or outputs are wrong.
 
-use borrow.Author.Rules.{rules}
 use Rattle.aiger_tests.proofs.has_wrong_interface.Goals as goal
 
 pub returns : goal.returns

@@ -5,7 +5,6 @@ use mathlib.Core.Path.{◌≡◌}
 use native.Mathlib.Nat.{zero-mul}
 use mathlib.Core.List.{[]}
 use native.Mathlib.Omega.{arith}
-use borrow.Author.Rules.{rules}
 use Rattle.model.specs.Acceptance.{WithinLimits}
 use Rattle.model.proofs.Wrote.{wrote_then, rest-within, rest-room}
 use Rattle.netlist.specs.NetOf.{first_at, net_of, alone}
@@ -94,7 +93,7 @@ slice_bounds-put_nexts-count c =
     rest-within header.0 (omega (arith, header.1, c.requires.1))
 
 pub slice_bounds-put_nexts-start : goal.slice_bounds-put_nexts-start
-slice_bounds-put_nexts-start c = omega (arith, sub-put-nexts (goal.at.slice_bounds-put_nexts-start c).After-slice_known-2-1)
+slice_bounds-put_nexts-start c = omega (arith, slice_bounds-put_nexts-count c)
 
 pub put_nexts-requires : goal.put_nexts-requires
 put_nexts-requires c =
@@ -118,7 +117,7 @@ slice_bounds-put_outputs-count c =
     rest-within (wrote_then _ _ _ _ _ _ _ header.0 nexts.0) (omega (arith, header.1, nexts.1, (sizes (goal.at.slice_bounds-put_outputs-count c).Start).wires, c.requires.1))
 
 pub slice_bounds-put_outputs-start : goal.slice_bounds-put_outputs-start
-slice_bounds-put_outputs-start c = omega (arith, sub-put-outputs (goal.at.slice_bounds-put_outputs-start c).After-slice_known-3-1)
+slice_bounds-put_outputs-start c = omega (arith, slice_bounds-put_outputs-count c)
 
 pub put_outputs-requires : goal.put_outputs-requires
 put_outputs-requires c =
@@ -148,7 +147,7 @@ slice_bounds-put_gates-count c =
     (omega (arith, header.1, nexts.1, outputs.1, fits.wires, fits.m-most, fits.n-most, c.requires.1))
 
 pub slice_bounds-put_gates-start : goal.slice_bounds-put_gates-start
-slice_bounds-put_gates-start c = omega (arith, sub-put-gates (goal.at.slice_bounds-put_gates-start c).After-slice_known-4-1)
+slice_bounds-put_gates-start c = omega (arith, slice_bounds-put_gates-count c)
 
 pub put_gates-requires : goal.put_gates-requires
 put_gates-requires c =

@@ -1,15 +1,13 @@
 -- `aiger_writer::put_gates` meets its contract. The loop has written the gates before g.
 
-use Prim.Native.Nat.{ℕ, ◌+◌, ◌-◌, ◌*◌, ◌≤◌}
+use Prim.Native.Nat.{ℕ, ◌+◌, ◌-◌, ◌≤◌}
 use mathlib.Core.Path.{◌≡◌, refl, ◌∙◌}
 use mathlib.Core.List.{List}
 use native.Mathlib.Numerals.{add-one}
 use native.Mathlib.Omega.{arith}
-use borrow.Author.Rules.{rules}
 use borrow.Rule.Slice.PartMut.{mid_len, same_len_mid}
 use lib.ListN.{length}
 use Rattle.model.specs.Gather.{gather}
-use Rattle.model.specs.Wrote.{Wrote}
 use Rattle.model.proofs.Wrote.{wrote_then}
 use Rattle.aiger_writer.specs.Parts.{gate_text_at}
 use Rattle.aiger_writer.proofs.put_gates.Goals as goal
@@ -25,10 +23,10 @@ room c =
     omega (arith, c.loop-g.invariant.1, c.loop-g.invariant.2, c.requires.1)
 
 pub slice_bounds-put_gate_at-count : goal.slice_bounds-put_gate_at-count
-slice_bounds-put_gate_at-count c = omega (arith, room (goal.at.slice_bounds-put_gate_at-count c).In-loop-g)
+slice_bounds-put_gate_at-count c = omega (arith, room c)
 
 pub slice_bounds-put_gate_at-start : goal.slice_bounds-put_gate_at-start
-slice_bounds-put_gate_at-start c = omega (arith, room (goal.at.slice_bounds-put_gate_at-start c).In-loop-g)
+slice_bounds-put_gate_at-start c = omega (arith, room c)
 
 pub put_gate_at-at-requires : goal.put_gate_at-at-requires
 put_gate_at-at-requires c =

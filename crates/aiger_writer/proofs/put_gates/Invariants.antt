@@ -1,16 +1,10 @@
 -- `aiger_writer::put_gates` meets its contract. The loop has written the gates before g.
 
-use Prim.Native.Nat.{ℕ, ◌+◌, ◌-◌, ◌*◌, ◌≤◌}
-use mathlib.Core.Path.{◌≡◌, refl, ◌∙◌}
-use mathlib.Core.List.{List}
-use native.Mathlib.Numerals.{add-one}
-use native.Mathlib.Omega.{arith}
-use borrow.Author.Rules.{rules}
-use borrow.Rule.Slice.PartMut.{mid_len, same_len_mid}
+use Prim.Native.Nat.{◌-◌, ◌*◌, ◌≤◌}
+use mathlib.Core.Path.{◌≡◌}
 use lib.ListN.{length}
 use Rattle.model.specs.Gather.{gather}
 use Rattle.model.specs.Wrote.{Wrote}
-use Rattle.model.proofs.Wrote.{wrote_then}
 use Rattle.aiger_writer.specs.Parts.{gate_text_at}
 use Rattle.aiger_writer.proofs.put_gates.Given as goal
 

@@ -1,6 +1,5 @@
 -- `aiger_writer::put_next` meets its contract.
 
-use borrow.Author.Rules.{rules}
 use Rattle.aiger_writer.proofs.put_next.Goals as goal
 
 pub returns : goal.returns

@@ -1,15 +1,13 @@
 -- `aiger_writer::put_nexts` meets its contract. The loop has written the lines of the latches before l.
 
-use Prim.Native.Nat.{ℕ, ◌+◌, ◌-◌, ◌*◌, ◌≤◌}
+use Prim.Native.Nat.{ℕ, ◌+◌, ◌-◌, ◌≤◌}
 use mathlib.Core.Path.{◌≡◌, refl, ◌∙◌}
 use mathlib.Core.List.{List}
 use native.Mathlib.Numerals.{add-one}
 use native.Mathlib.Omega.{arith}
-use borrow.Author.Rules.{rules}
 use borrow.Rule.Slice.PartMut.{mid_len, same_len_mid}
 use lib.ListN.{length}
 use Rattle.model.specs.Gather.{gather}
-use Rattle.model.specs.Wrote.{Wrote}
 use Rattle.model.proofs.Wrote.{wrote_then}
 use Rattle.aiger_writer.specs.Parts.{next_text}
 use Rattle.aiger_writer.proofs.put_nexts.Goals as goal
@@ -25,10 +23,10 @@ room c =
     omega (arith, c.loop-l.invariant.1, c.loop-l.invariant.2, c.requires.3)
 
 pub slice_bounds-put_next-count : goal.slice_bounds-put_next-count
-slice_bounds-put_next-count c = omega (arith, room (goal.at.slice_bounds-put_next-count c).In-loop-l)
+slice_bounds-put_next-count c = omega (arith, room c)
 
 pub slice_bounds-put_next-start : goal.slice_bounds-put_next-start
-slice_bounds-put_next-start c = omega (arith, room (goal.at.slice_bounds-put_next-start c).In-loop-l)
+slice_bounds-put_next-start c = omega (arith, room c)
 
 pub put_next-at-requires : goal.put_next-at-requires
 put_next-at-requires c =

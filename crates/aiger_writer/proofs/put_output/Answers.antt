@@ -1,6 +1,5 @@
 -- `aiger_writer::put_output` meets its contract.
 
-use borrow.Author.Rules.{rules}
 use Rattle.aiger_writer.proofs.put_output.Goals as goal
 
 pub returns : goal.returns

@@ -1,15 +1,13 @@
 -- `aiger_writer::put_outputs` meets its contract. The loop has written the lines of the outputs before o.
 
-use Prim.Native.Nat.{ℕ, ◌+◌, ◌-◌, ◌*◌, ◌≤◌}
+use Prim.Native.Nat.{ℕ, ◌+◌, ◌-◌, ◌≤◌}
 use mathlib.Core.Path.{◌≡◌, refl, ◌∙◌}
 use mathlib.Core.List.{List}
 use native.Mathlib.Numerals.{add-one}
 use native.Mathlib.Omega.{arith}
-use borrow.Author.Rules.{rules}
 use borrow.Rule.Slice.PartMut.{mid_len, same_len_mid}
 use lib.ListN.{length}
 use Rattle.model.specs.Gather.{gather}
-use Rattle.model.specs.Wrote.{Wrote}
 use Rattle.model.proofs.Wrote.{wrote_then}
 use Rattle.netlist.specs.NetOf.{net_of, alone}
 use Rattle.aiger_writer.specs.Parts.{output_text}
@@ -34,10 +32,10 @@ room c =
     omega (arith, c.loop-o.invariant.1, c.loop-o.invariant.2, c.requires.3)
 
 pub slice_bounds-put_output-count : goal.slice_bounds-put_output-count
-slice_bounds-put_output-count c = omega (arith, room (goal.at.slice_bounds-put_output-count c).In-loop-o)
+slice_bounds-put_output-count c = omega (arith, room c)
 
 pub slice_bounds-put_output-start : goal.slice_bounds-put_output-start
-slice_bounds-put_output-start c = omega (arith, room (goal.at.slice_bounds-put_output-start c).In-loop-o)
+slice_bounds-put_output-start c = omega (arith, room c)
 
 pub put_output-at-requires : goal.put_output-at-requires
 put_output-at-requires c =

@@ -2,7 +2,6 @@
 
 use mathlib.Core.Path.{sym}
 use native.Mathlib.Omega.{arith}
-use borrow.Author.Rules.{rules}
 use Rattle.answer_lines.proofs.Texts.{marked-second, marked_other, marked-short}
 use Rattle.answer_lines.proofs.is_marked.Goals as goal
 
@@ -13,4 +12,4 @@ pub returns-then-line-gt1 : goal.returns-then-line-gt1
 returns-then-line-gt1 c = sym (marked_other c.args.line.now c.if-line-eq118.false)
 
 pub returns : goal.returns
-returns c = sym (marked-short c.args.line.now (omega arith))
+returns-then-line-eq118 c = sym (marked-short c.args.line.now (omega arith))

@@ -10,7 +10,6 @@ use Rattle.answer_lines.specs.Answer.{unsatisfiable, satisfiable}
 use Rattle.answer_lines.specs.Progress.{answer_from}
 use Rattle.answer_lines.proofs.Texts.{marked-length}
 use Rattle.answer_lines.proofs.Lines.{unmarked-line, line-comment, line-malformed, line-status, line-value, line-too-many}
-use borrow.Author.Rules.{rules}
 use Rattle.answer_lines.proofs.read_line.Goals as goal
 
 pub returns-then-is_comment : goal.returns-then-is_comment
@@ -22,7 +21,7 @@ slice_bounds-read_value-count c =
     marked-length line (sym c.is_marked.ensures ∙ c.if-is_marked.true)
 
 pub slice_bounds-read_value-start : goal.slice_bounds-read_value-start
-slice_bounds-read_value-start c = omega (arith, sub-read-value (goal.at.slice_bounds-read_value-start c).After-read_value-arg-1)
+slice_bounds-read_value-start c = omega (arith, slice_bounds-read_value-count c)
 
 pub returns-then-is_marked : goal.returns-then-is_marked
 returns-then-is_marked c =

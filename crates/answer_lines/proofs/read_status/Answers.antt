@@ -2,7 +2,6 @@
 
 use mathlib.Core.Path.{sym, ◌∙◌}
 use Rattle.answer_lines.specs.Progress.{status_in}
-use borrow.Author.Rules.{rules}
 use Rattle.answer_lines.proofs.read_status.Goals as goal
 
 pub returns-then-same_text : goal.returns-then-same_text
@@ -15,4 +14,4 @@ returns-then-same_text-2 c = sym (rw (sym c.same_text.ensures ∙ c.if-same_text
 
 pub returns : goal.returns
 unfolding status_in
-returns c = sym (rw (sym c.same_text.ensures ∙ c.if-same_text.false, sym c.same_text-2.ensures ∙ c.if-same_text-2.false))
+returns-then-same_text c = sym (rw (sym c.same_text.ensures ∙ c.if-same_text.false, sym c.same_text-2.ensures ∙ c.if-same_text-2.false))

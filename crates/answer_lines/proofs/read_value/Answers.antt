@@ -7,7 +7,6 @@ use borrow.Author.Tests.{eqb-false}
 use Rattle.decimal.proofs.Signed.{read_back}
 use Rattle.answer_lines.proofs.Values.{word_fits, word-zero, word-nonzero}
 use Rattle.answer_lines.proofs.Lines.{number-none, number-zero, number-some}
-use borrow.Author.Rules.{rules}
 use Rattle.answer_lines.proofs.read_value.Goals as goal
 
 pub returns-in_default : goal.returns-in_default
@@ -26,7 +25,7 @@ mark-requires c =
     rw (read_back c.in-Value.z (word_fits word c.in-Value.z e)) (omega (arith, eqb-false (nat_abs c.in-Value.z) 0 (word-nonzero c.in-Value.z c.if-z-eq0.false)))
 
 pub returns : goal.returns
-returns c =
+returns-in_default c =
     let word = c.args.word.now in
     let e = sym c.read_clause_number.ensures ∙ c.in-Value.is in
     number-some c.in-Value.z e (word-nonzero c.in-Value.z c.if-z-eq0.false) (rw (read_back c.in-Value.z (word_fits word c.in-Value.z e)) at c.mark.ensures)

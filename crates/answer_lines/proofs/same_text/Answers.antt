@@ -1,10 +1,8 @@
 -- `answer_lines::same_text` meets its contract. The loop's invariant: the texts are the same if what is left of them is.
 
-use Prim.Native.Nat.{◌-◌, ◌≤◌}
-use mathlib.Core.Path.{◌≡◌, refl, sym, ◌∙◌}
+use Prim.Native.Nat.{◌-◌}
+use mathlib.Core.Path.{refl, sym, ◌∙◌}
 use native.Mathlib.Omega.{arith}
-use lib.ListN.{length, drop}
-use Rattle.decimal.specs.TextValue.{same_text}
 use Rattle.answer_lines.proofs.Texts.{same_end, same-differ, same_step, same-lengths}
 use Rattle.answer_lines.proofs.same_text.Goals as goal
 
@@ -40,4 +38,4 @@ returns-then-text-other c =
     sym (same_end c.args.text.now c.args.other.now c.loop-i.i (omega arith) (omega arith)) ∙ c.loop-i.invariant.2
 
 pub returns : goal.returns
-returns c = sym (same-lengths c.args.text.now c.args.other.now c.if-text-other.false)
+returns-else-text-i c = sym (same-lengths c.args.text.now c.args.other.now c.if-text-other.false)

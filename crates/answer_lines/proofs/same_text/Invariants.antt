@@ -1,11 +1,9 @@
 -- `answer_lines::same_text` meets its contract. The loop's invariant: the texts are the same if what is left of them is.
 
 use Prim.Native.Nat.{◌-◌, ◌≤◌}
-use mathlib.Core.Path.{◌≡◌, refl, sym, ◌∙◌}
-use native.Mathlib.Omega.{arith}
+use mathlib.Core.Path.{◌≡◌}
 use lib.ListN.{length, drop}
 use Rattle.decimal.specs.TextValue.{same_text}
-use Rattle.answer_lines.proofs.Texts.{same_end, same-differ, same_step, same-lengths}
 use Rattle.answer_lines.proofs.same_text.Given as goal
 
 abbrev pub invariant-loop-i : goal.invariant-loop-i

@@ -7,14 +7,13 @@ use lib.ListN.{length, drop, length-drop}
 use lib.Seq.{take_all}
 use Rattle.answer_lines.proofs.Texts.{marked-length}
 use Rattle.answer_scan.proofs.Steps.{values-is, number-elsewhere, number-malformed, number_read}
-use borrow.Author.Rules.{rules}
 use Rattle.answer_scan.proofs.end_number.Goals as goal
 
 pub slice_bounds-read_value-count : goal.slice_bounds-read_value-count
 slice_bounds-read_value-count c = marked-length c.args.begun.now c.requires.0
 
 pub slice_bounds-read_value-start : goal.slice_bounds-read_value-start
-slice_bounds-read_value-start c = omega (arith, sub-read-value (goal.at.slice_bounds-read_value-start c).After-read_value-arg-1)
+slice_bounds-read_value-start c = omega (arith, slice_bounds-read_value-count c)
 
 pub returns-then-is_values-2 : goal.returns-then-is_values-2
 returns-then-is_values-2 c =
@@ -31,5 +30,5 @@ returns-then-is_values c =
     (number-malformed begun c.requires.0 c.requires.1 (rw part at c.read_value-read.ensures) (sym c.is_values-then-is_values.ensures ∙ c.if-is_values-2.false))
 
 pub returns : goal.returns
-returns c =
+returns-then-is_values-2 c =
     number-elsewhere c.args.begun.now c.requires.0 c.args.progress (sym c.is_values.ensures ∙ c.if-is_values.false)

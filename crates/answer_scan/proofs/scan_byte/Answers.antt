@@ -6,7 +6,6 @@ use lib.Seq.{length-take-le}
 use Rattle.answer_scan.specs.Scan.{line_begun}
 use Rattle.answer_scan.proofs.Ahead.{ahead-comment}
 use Rattle.answer_scan.proofs.Steps.{holds-short, line_taken, passed-taken, number-taken}
-use borrow.Author.Rules.{rules}
 use Rattle.answer_scan.proofs.scan_byte.Goals as goal
 
 pub slice_bounds-read_line-end-then-byte-eq10 : goal.slice_bounds-read_line-end-then-byte-eq10
@@ -68,4 +67,4 @@ put_byte-requires-2 c =
     )
 
 pub returns : goal.returns
-returns c = record { holds = c.put_byte-2.ensures.holds; taken = passed-taken c.put_byte-2.ensures.passed }
+returns-then-byte-eq10 c = record { holds = c.put_byte-2.ensures.holds; taken = passed-taken c.put_byte-2.ensures.passed }

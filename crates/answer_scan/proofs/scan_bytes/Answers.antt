@@ -1,13 +1,12 @@
 -- `answer_scan::scan_bytes` meets its contract. The loop's invariant: the first i bytes are taken.
 
-use Prim.Native.Nat.{◌-◌, ◌≤◌}
+use Prim.Native.Nat.{◌-◌}
 use mathlib.Core.Path.{◌≡◌, refl, sym}
 use mathlib.Core.List.{[], ◌∷◌}
 use native.Mathlib.Numerals.{add-one}
 use native.Mathlib.Omega.{arith}
-use lib.ListN.{length, get_or, take}
+use lib.ListN.{get_or, take}
 use lib.Seq.{take-suc, take_all}
-use Rattle.answer_scan.specs.Scan.{line_begun, LineKept, Taken}
 use Rattle.answer_scan.proofs.Steps.{passed-taken}
 use Rattle.answer_scan.proofs.Pieces.{taken_then, behind-next}
 use Rattle.answer_scan.proofs.scan_bytes.Goals as goal

@@ -3,7 +3,6 @@
 use native.Mathlib.Omega.{arith}
 use Rattle.answer_lines.proofs.Written.{as_written}
 use Rattle.answer_scan.proofs.Pieces.{end-begun, end-no-status, end-values, end-satisfiable, end-unsatisfiable, end-malformed}
-use borrow.Author.Rules.{rules}
 use Rattle.answer_scan.proofs.scan_end.Goals as goal
 
 pub returns-then-position-gt0 : goal.returns-then-position-gt0

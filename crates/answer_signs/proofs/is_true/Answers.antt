@@ -2,7 +2,6 @@
 
 use mathlib.Core.Path.{sym}
 use native.Mathlib.Omega.{arith}
-use borrow.Author.Rules.{rules}
 use borrow.Author.Tests.{lt-ltb, le-ltb}
 use Rattle.model.specs.Bits.{odd}
 use Rattle.answer_signs.specs.Signs.{true_in}
@@ -15,4 +14,4 @@ returns-then-v-lt1198082 c = record { truth = sym (rw (lt-ltb c.args.variable 11
 
 pub returns : goal.returns
 unfolding true_in odd
-returns c = record { truth = sym (rw (le-ltb c.args.variable 1198082 (omega arith))); table = table-tells }
+returns-then-v-lt1198082 c = record { truth = sym (rw (le-ltb c.args.variable 1198082 (omega arith))); table = table-tells }

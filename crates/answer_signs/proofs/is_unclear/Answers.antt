@@ -2,7 +2,6 @@
 
 use mathlib.Core.Path.{sym}
 use native.Mathlib.Omega.{arith}
-use borrow.Author.Rules.{rules}
 use borrow.Author.Tests.{eq-eqb, ne_eqb, lt-ltb, le-ltb}
 use lib.ListN.{get_or}
 use Rattle.answer_signs.specs.Signs.{unclear_in}
@@ -20,4 +19,4 @@ returns-then-v-lt1198082 c =
 
 pub returns : goal.returns
 unfolding unclear_in
-returns c = sym (rw (le-ltb c.args.variable 1198082 (omega arith)))
+returns-then-entry-eq0 c = sym (rw (le-ltb c.args.variable 1198082 (omega arith)))

@@ -1,6 +1,5 @@
 -- `answer_signs::mark` meets its contract: a number's variable gets its sign, and no other entry changes.
 
-use borrow.Author.Rules.{rules}
 use Rattle.decimal.proofs.Signed.{read_back}
 use Rattle.answer_signs.proofs.Signs.{marked, past}
 use Rattle.answer_signs.proofs.mark.Goals as goal

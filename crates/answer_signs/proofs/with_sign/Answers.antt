@@ -2,7 +2,6 @@
 
 use Prim.Native.Nat.{◌%◌}
 use native.Mathlib.Omega.{arith}
-use borrow.Author.Rules.{rules}
 use borrow.Author.Tests.{eq-eqb, ne_eqb, lt-ltb, le-ltb}
 use Rattle.model.specs.Bits.{odd}
 use Rattle.answer_signs.specs.Marks.{with_sign}
@@ -25,5 +24,5 @@ returns-then-entry-lt2 c =
 
 pub returns : goal.returns
 unfolding with_sign
-returns c =
+returns-then-entry-eq0 c =
     rw (ne_eqb c.args.sign 0 (λ h. omega arith), le-ltb c.args.entry 2 (omega arith)) (omega arith)

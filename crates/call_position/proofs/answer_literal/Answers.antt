@@ -4,7 +4,6 @@ use mir.Syntax.{w32}
 use mir.ValLaws.{to_z-of_z}
 use Rattle.literals.proofs.Literal.{fits}
 use Rattle.call_position.specs.Literals.{with_literal}
-use borrow.Author.Rules.{rules}
 use Rattle.call_position.proofs.answer_literal.Goals as goal
 
 pub returns : goal.returns

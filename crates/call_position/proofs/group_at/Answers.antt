@@ -13,7 +13,6 @@ use Rattle.call_unpacked.proofs.Calls.{group-shown}
 use Rattle.call_position.specs.GroupsAt.{group_at_verdict, group_at_sent, group_at_leaves}
 use Rattle.call_position.proofs.Positions.{test_frame-lists}
 use Rattle.call_position.proofs.GroupsAt.{group-at-tested}
-use borrow.Author.Rules.{rules}
 use Rattle.call_position.proofs.group_at.Goals as goal
 use Rattle.call_position.proofs.group_at.Goals.{After-test_frame}
 
@@ -31,7 +30,7 @@ test_frame-requires c =
 -- behind the tests up to 8 those of the record decide, and of 10 and 9
 tested : (c : After-test_frame) →
     (room : ℕ) →
-    group_at_verdict (net_of c.args.net c.args.latches.now c.args.gates.now) c.args.latch-count c.args.gate-count c.args.position c.args.group room
+    group_at_verdict (net_of c.args.net c.args.latches.now c.args.gates.now) c.args.latch_count c.args.gate_count c.args.position c.args.group room
     ≡ c.test_frame.result then test_group_room (net_of c.args.net c.args.latches.now c.args.gates.now) c.args.position.depth c.args.group room
 unfolding ◌then◌
 tested c room =
@@ -50,6 +49,6 @@ write_tested-requires c = group-shown _ _ _ _ _ (sym c.test_group.ensures ∙ c.
 
 pub returns : goal.returns
 unfolding group_at_sent group_at_leaves ◌then◌
-returns c =
+returns-in-Refused c =
     let v = rw c.in_default-test_frame.is at (tested (goal.at.returns c).After-test_frame (length c.args.out.now)) in
     record { answer = rw v c.write_tested.ensures.answer; borrowed = rw v c.write_tested.ensures.borrowed }

@@ -1,7 +1,6 @@
 -- `call_position::kept` meets its contract: each arm knows its move.
 
 use Rattle.call_position.specs.Moves.{kept_at}
-use borrow.Author.Rules.{rules}
 use Rattle.call_position.proofs.kept.Goals as goal
 
 pub returns-in-Begin : goal.returns-in-Begin

@@ -4,7 +4,6 @@ use mathlib.Core.Path.{sym, ◌∙◌}
 use Rattle.clause_variables.proofs.Room.{code-numbered}
 use Rattle.call_position.specs.Literals.{with_literal, literal_sent}
 use Rattle.call_position.proofs.Literals.{literal-shown, sent-negated}
-use borrow.Author.Rules.{rules}
 use Rattle.call_position.proofs.literal_at.Goals as goal
 
 pub returns-in-Refused : goal.returns-in-Refused
@@ -20,7 +19,7 @@ in_frame-requires c =
 
 pub returns : goal.returns
 unfolding literal_sent with_literal
-returns c =
+returns-in-Refused c =
     let passed = sym c.test_literal.ensures ∙ c.in_default.is in
     let shown = literal-shown _ _ _ passed in
     sent-negated _ _ _ (rw (c.answer_literal.ensures, c.in_frame.ensures.literal, passed, shown.2))

@@ -10,7 +10,6 @@ use Rattle.netlist.proofs.NetOf.{sizes-lists}
 use Rattle.call_unpacked.proofs.Calls.{depth-shown}
 use Rattle.call_position.specs.Moves.{move_of, move_verdict, with_position, move_sent}
 use Rattle.call_position.proofs.Moves.{test_move-lists, moved_to-lists, move-tested}
-use borrow.Author.Rules.{rules}
 use Rattle.call_position.proofs.move_position.Goals as goal
 use Rattle.call_position.proofs.move_position.Goals.{After-test_move, In_default}
 
@@ -29,7 +28,7 @@ shown c =
 
 -- behind them the tests of the move decide
 tested : (c : After-test_move) →
-    move_verdict (net_of c.args.net c.args.latches.now c.args.gates.now) c.args.latch-count c.args.gate-count c.args.position (move_of c.args.way)
+    move_verdict (net_of c.args.net c.args.latches.now c.args.gates.now) c.args.latch_count c.args.gate_count c.args.position (move_of c.args.way)
     ≡ c.test_move.result
 unfolding ◌then◌
 tested c =
@@ -39,7 +38,7 @@ tested c =
     (moves ∙ test_move-lists c.args.net c.args.latches.now c.args.gates.now c.args.position (move_of c.args.way))
 
 pub test_move-requires : goal.test_move-requires
-test_move-requires c = shown (goal.at.test_move-requires c).In_default
+test_move-requires c = shown c
 
 pub returns-in-Refused-test_move : goal.returns-in-Refused-test_move
 unfolding move_sent with_position
@@ -52,6 +51,6 @@ moved-requires c = ((shown (goal.at.moved-requires c).In_default).0, (shown (goa
 
 pub returns : goal.returns
 unfolding move_sent with_position
-returns c =
+returns-in-Refused c =
     let e = tested (goal.at.returns c).After-test_move in
     rw (c.moved.ensures, c.move_of-way.ensures, e ∙ c.in_default-test_move.is, moved_to-lists c.args.net c.args.latches.now c.args.gates.now c.args.position (move_of c.args.way))

@@ -4,7 +4,6 @@ use native.Mathlib.Omega.{arith}
 use Rattle.netlist.specs.NetOf.{alone}
 use Rattle.call_position.specs.Moves.{test_move, moved_to}
 use Rattle.call_position.proofs.Positions.{frame-shown}
-use borrow.Author.Rules.{rules}
 use Rattle.call_position.proofs.moved.Goals as goal
 
 pub next-requires : goal.next-requires

@@ -9,7 +9,6 @@ use Rattle.model.specs.Variables.{base}
 use Rattle.model.proofs.Ports.{stride_most}
 use Rattle.model.proofs.Variables.{base-suc, base-most}
 use Rattle.netlist.specs.NetOf.{net_of, alone}
-use borrow.Author.Rules.{rules}
 use Rattle.call_position.proofs.next.Goals as goal
 use Rattle.call_position.proofs.next.Goals.{After-numbering-numbering}
 

@@ -1,7 +1,6 @@
 -- `call_position::no_literal` meets its contract.
 
 use Rattle.call_position.specs.Literals.{with_literal}
-use borrow.Author.Rules.{rules}
 use Rattle.call_position.proofs.no_literal.Goals as goal
 
 pub returns : goal.returns

@@ -6,7 +6,6 @@ use mir.Syntax.{w32}
 use mir.ValLaws.{to_z-of_z}
 use Rattle.literals.specs.Lit.{literal_of}
 use Rattle.literals.proofs.Literal.{literal_number-at, fits}
-use borrow.Author.Rules.{rules}
 use Rattle.call_position.proofs.number_of.Goals as goal
 
 pub returns-in-True : goal.returns-in-True

@@ -1,7 +1,6 @@
 -- `call_position::refused_move` meets its contract.
 
 use Rattle.call_position.specs.Moves.{with_position}
-use borrow.Author.Rules.{rules}
 use Rattle.call_position.proofs.refused_move.Goals as goal
 
 pub returns : goal.returns

@@ -6,7 +6,6 @@ use Rattle.refusals.specs.declared.Refusal.TheVariants.{CodeOutside}
 use Rattle.netlist.specs.NetOf.{alone}
 use Rattle.call_position.specs.Literals.{literal_verdict}
 use Rattle.call_position.proofs.Literals.{numbering-shown}
-use borrow.Author.Rules.{rules}
 use Rattle.call_position.proofs.test_literal.Goals as goal
 use Rattle.call_position.proofs.test_literal.Goals.{After-is_above}
 
@@ -39,4 +38,4 @@ pub returns-then-is_above : goal.returns-then-is_above
 returns-then-is_above c = sym (left (goal.at.returns-then-is_above c).After-is_above ∙ rw c.if-is_above.true)
 
 pub returns : goal.returns
-returns c = sym (left (goal.at.returns c).After-is_above ∙ rw c.if-is_above.false)
+returns-in-Refused c = sym (left (goal.at.returns c).After-is_above ∙ rw c.if-is_above.false)

@@ -1,7 +1,6 @@
 -- `call_position::test_move` meets its contract: each arm knows its move.
 
 use Rattle.call_position.specs.Moves.{test_move}
-use borrow.Author.Rules.{rules}
 use Rattle.call_position.proofs.test_move.Goals as goal
 
 pub returns-in-Begin : goal.returns-in-Begin

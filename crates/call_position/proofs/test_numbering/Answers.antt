@@ -5,7 +5,6 @@ use borrow.Author.Tests.{le-ltb, lt-ltb}
 use Rattle.refusals.specs.Tests.{◌then◌}
 use Rattle.call_unpacked.specs.Calls.{test_depth}
 use Rattle.call_position.specs.Literals.{numbering_verdict}
-use borrow.Author.Rules.{rules}
 use Rattle.call_position.proofs.test_numbering.Goals as goal
 
 pub returns-in-Refused : goal.returns-in-Refused
@@ -21,5 +20,5 @@ returns-then-depth-gt255 c =
 
 pub returns : goal.returns
 unfolding numbering_verdict ◌then◌ test_depth
-returns c =
+returns-in-Refused c =
     rw (sym c.test_sizes-sizes.ensures ∙ c.in_default.is, le-ltb 255 _ c.if-depth-gt255.false)

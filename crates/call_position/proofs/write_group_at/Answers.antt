@@ -1,6 +1,5 @@
 -- `call_position::write_group_at` meets its contract.
 
-use borrow.Author.Rules.{rules}
 use Rattle.call_position.proofs.write_group_at.Goals as goal
 
 pub returns : goal.returns

@@ -1,6 +1,5 @@
 -- `call_replies::group_numbers` meets its contract: each arm knows its answer.
 
-use borrow.Author.Rules.{rules}
 use Rattle.call_unpacked.specs.Calls.{group_reply}
 use Rattle.call_replies.proofs.group_numbers.Goals as goal
 

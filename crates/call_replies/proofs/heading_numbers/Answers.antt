@@ -1,7 +1,6 @@
 -- `call_replies::heading_numbers` meets its contract: each arm knows its answer.
 
 use Rattle.call_unpacked.specs.Calls.{heading_reply, with_heading}
-use borrow.Author.Rules.{rules}
 use Rattle.call_replies.proofs.heading_numbers.Goals as goal
 
 pub returns-in-Heading : goal.returns-in-Heading

@@ -1,6 +1,5 @@
 -- `call_replies::line_numbers` meets its contract: each arm knows its answer.
 
-use borrow.Author.Rules.{rules}
 use Rattle.sheet_parse.specs.LineAnswers.{line_sent}
 use Rattle.call_replies.proofs.line_numbers.Goals as goal
 

@@ -1,6 +1,5 @@
 -- `call_replies::next_numbers` meets its contract: each arm knows what comes next.
 
-use borrow.Author.Rules.{rules}
 use Rattle.call_replies.specs.Replies.{next_numbers}
 use Rattle.call_replies.proofs.next_numbers.Goals as goal
 

@@ -1,6 +1,5 @@
 -- `call_replies::numbers_of` meets its contract: each arm knows its group.
 
-use borrow.Author.Rules.{rules}
 use Rattle.call_replies.specs.Replies.{group_numbers}
 use Rattle.call_replies.proofs.numbers_of.Goals as goal
 

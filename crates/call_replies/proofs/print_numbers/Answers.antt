@@ -1,6 +1,5 @@
 -- `call_replies::print_numbers` meets its contract: each arm knows its answer.
 
-use borrow.Author.Rules.{rules}
 use Rattle.dimacs.specs.PrintCalls.{print_reply}
 use Rattle.call_replies.proofs.print_numbers.Goals as goal
 

@@ -1,6 +1,5 @@
 -- `call_replies::refused` meets its contract: it is the definition.
 
-use borrow.Author.Rules.{rules}
 use Rattle.refusals.specs.Slices.{with_count}
 use Rattle.call_replies.proofs.refused.Goals as goal
 

@@ -1,6 +1,5 @@
 -- `call_replies::sheet_numbers` meets its contract: it is the definition.
 
-use borrow.Author.Rules.{rules}
 use Rattle.call_replies.specs.Replies.{sheet_numbers}
 use Rattle.call_replies.proofs.sheet_numbers.Goals as goal
 

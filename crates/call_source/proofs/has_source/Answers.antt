@@ -1,6 +1,5 @@
 -- `call_source::has_source` meets its contract.
 
-use borrow.Author.Rules.{rules}
 use Rattle.call_source.proofs.has_source.Goals as goal
 
 pub returns : goal.returns

@@ -10,7 +10,6 @@ use Rattle.netlist.specs.NetOf.{alone}
 use Rattle.clause_variables.specs.PortOf.{port_of}
 use Rattle.clause_variables.proofs.Room.{code-numbered}
 use Rattle.call_source.specs.Sources.{source_in}
-use borrow.Author.Rules.{rules}
 use Rattle.call_source.proofs.of_closing.Goals as goal
 use Rattle.call_source.proofs.of_closing.Goals.{After-port_of-port}
 
@@ -40,7 +39,7 @@ of_pair-requires c =
 
 pub returns : goal.returns
 unfolding source_in closing_literals
-returns c =
+returns-then-i-eq0 c =
     let later = c.if-i-eq0.false in
     rw (none_since-earlier (alone c.args.net) (port (alone c.args.net) c.args.number) 0 c.args.i (omega arith))
     (rw c.port_of-port.ensures at c.of_pair.ensures)

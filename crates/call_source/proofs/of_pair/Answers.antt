@@ -8,7 +8,6 @@ use Rattle.netlist.specs.NetOf.{net_of, alone}
 use Rattle.clause_variables.specs.PortOf.{port_of}
 use Rattle.clause_variables.proofs.Room.{numbering-fits, behind-bits}
 use Rattle.call_source.proofs.Sources.{pair-has-number}
-use borrow.Author.Rules.{rules}
 use Rattle.call_source.proofs.of_pair.Goals as goal
 use Rattle.call_source.proofs.of_pair.Goals.{After-pair_base-base}
 

@@ -1,7 +1,6 @@
 -- `call_source::port_in` meets its contract.
 
 use Rattle.call_source.specs.Sources.{port_in}
-use borrow.Author.Rules.{rules}
 use Rattle.call_source.proofs.port_in.Goals as goal
 
 pub returns-in-Wires : goal.returns-in-Wires

@@ -7,7 +7,6 @@ use Rattle.literals.specs.Lit.{literal_of}
 use Rattle.netlist.specs.NetOf.{alone}
 use Rattle.call_source.specs.Sources.{source_in}
 use Rattle.call_source.proofs.Sources.{pair-there, closing-there, closing-RE}
-use borrow.Author.Rules.{rules}
 use Rattle.call_source.proofs.source_in.Goals as goal
 
 pub port_of-requires : goal.port_of-requires

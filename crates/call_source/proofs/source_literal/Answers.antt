@@ -4,7 +4,6 @@ use mathlib.Core.Path.{sym, ◌∙◌}
 use Rattle.call_position.specs.Literals.{with_literal}
 use Rattle.call_source.specs.Sources.{source_sent}
 use Rattle.call_source.proofs.Sources.{source-shown}
-use borrow.Author.Rules.{rules}
 use Rattle.call_source.proofs.source_literal.Goals as goal
 
 pub returns-in-Refused : goal.returns-in-Refused
@@ -17,5 +16,5 @@ source_in-requires c = source-shown _ _ _ (sym c.test_source.ensures ∙ c.in_de
 
 pub returns : goal.returns
 unfolding source_sent with_literal
-returns c =
+returns-in-Refused c =
     rw (c.answer_literal.ensures, c.source_in.ensures.literal, sym c.test_source.ensures ∙ c.in_default.is)

@@ -16,7 +16,6 @@ use Rattle.clause_variables.specs.PortOf.{port_of}
 use Rattle.call_position.proofs.Literals.{numbering-shown}
 use Rattle.call_source.specs.Sources.{port_in, source_verdict}
 use Rattle.call_source.proofs.Sources.{port-there}
-use borrow.Author.Rules.{rules}
 use Rattle.call_source.proofs.test_source.Goals as goal
 use Rattle.call_source.proofs.test_source.Goals.{After-has_source, After-is_above, Else-not-has_source, In_default}
 
@@ -31,7 +30,7 @@ sizes : (c : In_default) → SizesFit (alone c.args.net)
 sizes c = (numbering-shown _ _ (sym c.test_numbering-asked.ensures ∙ c.in_default.is)).0
 
 pub port_count-requires : goal.port_count-requires
-port_count-requires c = sizes (goal.at.port_count-requires c).In_default
+port_count-requires c = sizes c
 
 -- the verdict, once the sizes and the depth have passed
 behind : (c : After-has_source) →
@@ -72,4 +71,4 @@ pub returns-then-is_above : goal.returns-then-is_above
 returns-then-is_above c = sym (left (goal.at.returns-then-is_above c).After-is_above ∙ rw c.if-is_above.true)
 
 pub returns : goal.returns
-returns c = sym (left (goal.at.returns c).After-is_above ∙ rw c.if-is_above.false)
+returns-in-Refused c = sym (left (goal.at.returns c).After-is_above ∙ rw c.if-is_above.false)

@@ -23,15 +23,15 @@ shown : (c : In_default) →
 shown c = depth-shown _ _ _ _ (sym c.test_depth.ensures ∙ c.in_default.is)
 
 pub overflow_add-depth : goal.overflow_add-depth
-overflow_add-depth c = let most = (shown (goal.at.overflow_add-depth c).In_default).1 in search rules
+overflow_add-depth c = let most = (shown c).1 in search rules
 
 pub frame_base-variables-requires : goal.frame_base-variables-requires
-frame_base-variables-requires c = (sizes-lists _ _ _ [] [] (shown (goal.at.frame_base-variables-requires c).In_default).0.limits.sizes, omega (arith, (shown (goal.at.frame_base-variables-requires c).In_default).1))
+frame_base-variables-requires c = (sizes-lists _ _ _ [] [] (shown c).0.limits.sizes, omega (arith, (shown c).1))
 
 pub clause_count-requires : goal.clause_count-requires
 clause_count-requires c = shown (goal.at.clause_count-requires c).In_default
 
 pub returns : goal.returns
 unfolding heading_reply with_heading heading_sent heading_verdict
-returns c =
+returns-in-Refused c =
     rw (sym c.test_depth.ensures ∙ c.in_default.is, c.frame_base-variables.ensures ∙ base-lists c.args.net c.args.latches.now c.args.gates.now (c.args.depth + 1), c.clause_count.ensures)

@@ -2,7 +2,6 @@
 
 use mathlib.Core.Path.{sym, ◌∙◌}
 use borrow.Author.Tests.{le-ltb, lt-ltb}
-use borrow.Author.Rules.{rules}
 use Rattle.refusals.specs.Tests.{◌then◌}
 use Rattle.call_unpacked.specs.Calls.{test_depth}
 use Rattle.call_unpacked.proofs.test_depth.Goals as goal
@@ -19,4 +18,4 @@ returns-then-depth-gt255 c = rw (sym c.test_record-record.ensures ∙ c.in_defau
 
 pub returns : goal.returns
 unfolding ◌then◌ test_depth
-returns c = rw (sym c.test_record-record.ensures ∙ c.in_default.is, le-ltb 255 _ c.if-depth-gt255.false)
+returns-in-Refused c = rw (sym c.test_record-record.ensures ∙ c.in_default.is, le-ltb 255 _ c.if-depth-gt255.false)

@@ -3,7 +3,6 @@
 use mathlib.Core.List.{[]}
 use mathlib.Core.Path.{◌≡◌, sym, ◌∙◌}
 use borrow.Author.Tests.{not-true, not-false}
-use borrow.Author.Rules.{rules}
 use Rattle.refusals.specs.Tests.{◌then◌}
 use Rattle.refusals.specs.declared.Refusal.TheVariants.{NoSuchGroup}
 use Rattle.refusals.specs.declared.Verdict.TheVariants.{Passed, Refused}
@@ -29,7 +28,7 @@ port_count-requires c =
 -- the record and the depth have passed their tests
 asked : (c : In_default) →
     test_group (net_of c.args.net c.args.latches.now c.args.gates.now) c.args.depth c.args.group
-    ≡ record_verdict (net_of c.args.net c.args.latches.now c.args.gates.now) c.args.latch-count c.args.gate-count then test_depth c.args.depth
+    ≡ record_verdict (net_of c.args.net c.args.latches.now c.args.gates.now) c.args.latch_count c.args.gate_count then test_depth c.args.depth
     then test_group (net_of c.args.net c.args.latches.now c.args.gates.now) c.args.depth c.args.group
 unfolding ◌then◌
 asked c =
@@ -46,7 +45,7 @@ returns-then-not-is_in_depth c =
 
 pub returns : goal.returns
 unfolding test_group net_of
-returns c =
+returns-in-Refused c =
     let there = rw c.port_count.ensures at c.is_in_depth.ensures in
     let e : test_group (net_of c.args.net c.args.latches.now c.args.gates.now) c.args.depth c.args.group ≡ Passed = rw (sym there ∙ not-false _ c.if-not-is_in_depth.false) in
     sym e ∙ asked (goal.at.returns c).In_default

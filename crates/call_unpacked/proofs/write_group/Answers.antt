@@ -6,7 +6,6 @@ use Rattle.refusals.specs.Tests.{◌then◌}
 use Rattle.refusals.specs.Slices.{with_count, contents_after}
 use Rattle.call_unpacked.specs.Calls.{group_reply, group_sent, group_leaves}
 use Rattle.call_unpacked.proofs.Calls.{group-shown, group-tested}
-use borrow.Author.Rules.{rules}
 use Rattle.call_unpacked.proofs.write_group.Goals as goal
 
 pub returns-in-Refused : goal.returns-in-Refused
@@ -20,6 +19,6 @@ write_tested-requires c = group-shown _ _ _ _ _ (sym c.test_group.ensures ∙ c.
 
 pub returns : goal.returns
 unfolding group_sent group_leaves ◌then◌
-returns c =
+returns-in-Refused c =
     let v = group-tested _ _ _ _ _ (length c.args.out.now) (sym c.in_default.is ∙ c.test_group.ensures) in
     record { answer = rw v c.write_tested.ensures.answer; borrowed = rw v c.write_tested.ensures.borrowed }

@@ -7,7 +7,6 @@ use Rattle.netlist.specs.NetOf.{net_of}
 use Rattle.netlist.proofs.NetOf.{limits-alone}
 use Rattle.netlist.specs.WireTable.{entry}
 use Rattle.circuit_step.proofs.Held.{below-same, frame-alike, reads_in, holds-lists, fed-lists}
-use borrow.Author.Rules.{rules}
 use Rattle.circuit_step.proofs.put_frame.Goals as goal
 
 pub read_words-words-requires : goal.read_words-words-requires

@@ -1,12 +1,11 @@
 -- `circuit_step::put_latches` meets its contract. The loop's invariant: the first l latches are stepped.
 
-use Prim.Native.Nat.{ℕ, ◌-◌, ◌≤◌, ◌<◌}
+use Prim.Native.Nat.{◌-◌}
 use mathlib.Core.Path.{◌≡◌}
 use native.Mathlib.Omega.{arith}
-use lib.ListN.{length, length-set}
+use lib.ListN.{length-set}
 use Rattle.model.specs.Circuit.{code_value}
-use Rattle.netlist.specs.NetOf.{first_at, net_of}
-use Rattle.netlist.specs.WireTable.{entry}
+use Rattle.netlist.specs.NetOf.{net_of}
 use Rattle.circuit_step.proofs.Held.{set_next}
 use Rattle.circuit_step.proofs.put_latches.Goals as goal
 

@@ -2,12 +2,10 @@
 
 use Prim.Native.Nat.{ℕ, ◌-◌, ◌≤◌, ◌<◌}
 use mathlib.Core.Path.{◌≡◌}
-use native.Mathlib.Omega.{arith}
-use lib.ListN.{length, length-set}
+use lib.ListN.{length}
 use Rattle.model.specs.Circuit.{code_value}
-use Rattle.netlist.specs.NetOf.{first_at, net_of}
+use Rattle.netlist.specs.NetOf.{first_at}
 use Rattle.netlist.specs.WireTable.{entry}
-use Rattle.circuit_step.proofs.Held.{set_next}
 use Rattle.circuit_step.proofs.put_latches.Given as goal
 
 abbrev pub invariant-loop-l : goal.invariant-loop-l

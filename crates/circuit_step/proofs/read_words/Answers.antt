@@ -11,7 +11,6 @@ use Rattle.model.proofs.Ports.{second-port, by-port, each-bit}
 use Rattle.netlist.specs.NetOf.{net_of, alone}
 use Rattle.netlist.specs.WireTable.{entry}
 use Rattle.circuit_step.specs.Held.{state_in}
-use borrow.Author.Rules.{rules}
 use Rattle.circuit_step.proofs.read_words.Goals as goal
 
 pub returns-then-net-eq0 : goal.returns-then-net-eq0
@@ -35,7 +34,7 @@ two_words-requires c = c.requires.0.sizes.n-most
 
 pub returns : goal.returns
 unfolding net_of
-returns c =
+returns-then-net-eq0 c =
     let d = alone c.args.net in
     let read : ℕ → _ = read_data d (state_in [] c.args.memory.now c.args.held) (entry c.args.values.now) in
     each-bit d (λ x. bit c.two_words.result x ≡ read x)

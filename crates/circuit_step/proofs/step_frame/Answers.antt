@@ -11,7 +11,6 @@ use Rattle.netlist.proofs.NetOf.{limits-without-latches, limits-without-gates, l
 use Rattle.netlist.specs.WireTable.{HasBelow}
 use Rattle.circuit_step.specs.Held.{HoldsState, Fed, memory_after}
 use Rattle.circuit_step.proofs.Held.{below-same, step-holds, behind-memory_after, holds-lists, fed-lists, frame-lists}
-use borrow.Author.Rules.{rules}
 use Rattle.circuit_step.proofs.step_frame.Goals as goal
 
 pub put_frame-words-requires : goal.put_frame-words-requires

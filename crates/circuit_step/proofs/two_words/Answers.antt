@@ -5,7 +5,6 @@ use native.Mathlib.Nat.{mul-le-mul_right, pow-le-pow_right, mod-lt}
 use native.Mathlib.Omega.{arith}
 use lib.Pow.{pow_pos}
 use Rattle.circuit_values.proofs.Bits.{one-above, word-above, two-first, two-second}
-use borrow.Author.Rules.{rules}
 use Rattle.circuit_step.proofs.two_words.Goals as goal
 
 pub nonzero_rem-result : goal.nonzero_rem-result

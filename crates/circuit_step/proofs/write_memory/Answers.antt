@@ -7,7 +7,6 @@ use Rattle.model.proofs.Memory.{address_below}
 use Rattle.netlist.specs.NetOf.{net_of, alone}
 use Rattle.netlist.specs.WireTable.{entry}
 use Rattle.circuit_step.specs.Held.{memory_after}
-use borrow.Author.Rules.{rules}
 use Rattle.circuit_step.proofs.write_memory.Goals as goal
 
 pub code_value-requires : goal.code_value-requires

@@ -1,15 +1,12 @@
 -- `circuit_values::address_of` meets its contract. The loop's invariant: the first t bits make the number.
 
-use Prim.Native.Nat.{◌-◌, ◌≤◌}
+use Prim.Native.Nat.{◌-◌}
 use mathlib.Core.Path.{◌≡◌}
 use native.Mathlib.Omega.{arith}
-use Rattle.model.specs.Bits.{from_bits}
-use Rattle.model.specs.Netlist.{port}
 use Rattle.model.specs.Circuit.{code_value, address_of}
 use Rattle.model.proofs.Bits.{from_bits-below}
 use Rattle.model.proofs.Ports.{port-address}
 use Rattle.netlist.specs.NetOf.{code_of, net_of, alone}
-use Rattle.netlist.specs.WireTable.{entry}
 use Rattle.circuit_values.proofs.Bits.{from_bits-none, from_bits-next}
 use Rattle.circuit_values.proofs.address_of.Goals as goal
 
@@ -50,7 +47,7 @@ pub code_value-requires : goal.code_value-requires
 unfolding net_of code_of
 code_value-requires c =
     let t = c.loop-t.t in
-    omega (arith, c.of_port-code.ensures, port-address (alone c.args.net) c.args.port-number t, c.requires.0.sizes, c.requires.0.codes.address-fits c.args.port-number c.requires.1 t c.loop-t-test.true)
+    omega (arith, c.of_port-code.ensures, port-address (alone c.args.net) c.args.port_number t, c.requires.0.sizes, c.requires.0.codes.address-fits c.args.port_number c.requires.1 t c.loop-t-test.true)
 
 pub with_bit-number-requires : goal.with_bit-number-requires
 unfolding net_of
@@ -72,7 +69,7 @@ unfolding net_of code_of
 loop-t-preserved c =
     let t = c.loop-t.t in (
       omega arith,
-      rw (c.with_bit-number.ensures, c.code_value.ensures, c.of_port-code.ensures, ← port-address (alone c.args.net) c.args.port-number t, c.loop-t.invariant.1) (from_bits-next t _),
+      rw (c.with_bit-number.ensures, c.code_value.ensures, c.of_port-code.ensures, ← port-address (alone c.args.net) c.args.port_number t, c.loop-t.invariant.1) (from_bits-next t _),
     )
 
 pub returns : goal.returns

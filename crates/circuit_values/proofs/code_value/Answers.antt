@@ -2,7 +2,6 @@
 
 use mathlib.Core.Path.{sym, ◌∙◌}
 use Rattle.model.specs.Circuit.{code_value}
-use borrow.Author.Rules.{rules}
 use Rattle.circuit_values.proofs.code_value.Goals as goal
 
 pub returns-then-is_inverted : goal.returns-then-is_inverted
@@ -11,4 +10,4 @@ returns-then-is_inverted c = rw (c.wire_index.ensures, sym c.is_inverted.ensures
 
 pub returns : goal.returns
 unfolding code_value
-returns c = rw (c.wire_index.ensures, sym c.is_inverted.ensures ∙ c.if-is_inverted.false)
+returns-then-is_inverted c = rw (c.wire_index.ensures, sym c.is_inverted.ensures ∙ c.if-is_inverted.false)

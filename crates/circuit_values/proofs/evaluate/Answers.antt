@@ -13,7 +13,6 @@ use Rattle.netlist.specs.NetOf.{net_of}
 use Rattle.netlist.proofs.NetOf.{sizes-lists}
 use Rattle.netlist.specs.WireTable.{entry}
 use Rattle.circuit_values.proofs.WireTable.{below-start, below-fewer}
-use borrow.Author.Rules.{rules}
 use Rattle.circuit_values.proofs.evaluate.Goals as goal
 
 pub first_latch_wire-requires : goal.first_latch_wire-requires

@@ -1,10 +1,10 @@
 -- `circuit_values::put_bits` meets its contract. The loop's invariant: the table has the first t bits.
 
-use Prim.Native.Nat.{◌-◌, ◌≤◌}
+use Prim.Native.Nat.{◌-◌}
 use mathlib.Core.Path.{◌≡◌, refl}
 use native.Mathlib.Omega.{arith}
 use Rattle.model.specs.Bits.{odd, bit}
-use Rattle.circuit_values.proofs.WireTable.{Grown, grown-none, grown-next}
+use Rattle.circuit_values.proofs.WireTable.{grown-none, grown-next}
 use Rattle.circuit_values.proofs.put_bits.Goals as goal
 
 pub loop-t-init : goal.loop-t-init

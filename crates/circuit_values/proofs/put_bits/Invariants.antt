@@ -1,10 +1,8 @@
 -- `circuit_values::put_bits` meets its contract. The loop's invariant: the table has the first t bits.
 
 use Prim.Native.Nat.{◌-◌, ◌≤◌}
-use mathlib.Core.Path.{◌≡◌, refl}
-use native.Mathlib.Omega.{arith}
-use Rattle.model.specs.Bits.{odd, bit}
-use Rattle.circuit_values.proofs.WireTable.{Grown, grown-none, grown-next}
+use Rattle.model.specs.Bits.{bit}
+use Rattle.circuit_values.proofs.WireTable.{Grown}
 use Rattle.circuit_values.proofs.put_bits.Given as goal
 
 abbrev pub invariant-loop-t : goal.invariant-loop-t

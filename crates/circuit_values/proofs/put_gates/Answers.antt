@@ -1,12 +1,12 @@
 -- `circuit_values::put_gates` meets its contract. The loop's invariant: the table has every wire before gate g.
 
-use Prim.Native.Nat.{◌-◌, ◌≤◌}
+use Prim.Native.Nat.{◌-◌}
 use mathlib.Core.Path.{◌≡◌}
 use mathlib.Core.List.{[]}
 use native.Mathlib.Omega.{arith}
 use Rattle.netlist.specs.NetOf.{net_of}
 use Rattle.netlist.proofs.NetOf.{sizes-lists}
-use Rattle.circuit_values.proofs.WireTable.{below-fewer, Worked, worked-none, worked-next}
+use Rattle.circuit_values.proofs.WireTable.{below-fewer, worked-none, worked-next}
 use Rattle.circuit_values.proofs.put_gates.Goals as goal
 
 pub first_gate_wire-requires : goal.first_gate_wire-requires

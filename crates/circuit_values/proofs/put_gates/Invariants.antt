@@ -1,12 +1,9 @@
 -- `circuit_values::put_gates` meets its contract. The loop's invariant: the table has every wire before gate g.
 
 use Prim.Native.Nat.{◌-◌, ◌≤◌}
-use mathlib.Core.Path.{◌≡◌}
 use mathlib.Core.List.{[]}
-use native.Mathlib.Omega.{arith}
 use Rattle.netlist.specs.NetOf.{net_of}
-use Rattle.netlist.proofs.NetOf.{sizes-lists}
-use Rattle.circuit_values.proofs.WireTable.{below-fewer, Worked, worked-none, worked-next}
+use Rattle.circuit_values.proofs.WireTable.{Worked}
 use Rattle.circuit_values.proofs.put_gates.Given as goal
 
 abbrev pub invariant-loop-g : goal.invariant-loop-g

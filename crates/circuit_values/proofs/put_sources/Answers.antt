@@ -1,10 +1,9 @@
 -- `circuit_values::put_sources` meets its contract. The loop's invariant: the table has the first x values.
 
-use Prim.Native.Nat.{◌-◌, ◌≤◌}
+use Prim.Native.Nat.{◌-◌}
 use mathlib.Core.Path.{◌≡◌, refl}
 use native.Mathlib.Omega.{arith}
-use Rattle.netlist.specs.WireTable.{entry}
-use Rattle.circuit_values.proofs.WireTable.{Grown, grown-none, grown-next}
+use Rattle.circuit_values.proofs.WireTable.{grown-none, grown-next}
 use Rattle.circuit_values.proofs.put_sources.Goals as goal
 
 pub loop-x-init : goal.loop-x-init

@@ -1,10 +1,8 @@
 -- `circuit_values::put_sources` meets its contract. The loop's invariant: the table has the first x values.
 
 use Prim.Native.Nat.{◌-◌, ◌≤◌}
-use mathlib.Core.Path.{◌≡◌, refl}
-use native.Mathlib.Omega.{arith}
 use Rattle.netlist.specs.WireTable.{entry}
-use Rattle.circuit_values.proofs.WireTable.{Grown, grown-none, grown-next}
+use Rattle.circuit_values.proofs.WireTable.{Grown}
 use Rattle.circuit_values.proofs.put_sources.Given as goal
 
 abbrev pub invariant-loop-x : goal.invariant-loop-x

@@ -2,7 +2,6 @@
 
 use native.Mathlib.Omega.{arith}
 use Rattle.circuit_values.proofs.Bits.{bit_shifted, bit-fits}
-use borrow.Author.Rules.{rules}
 use Rattle.circuit_values.proofs.with_bit.Goals as goal
 
 pub overflow_add-result : goal.overflow_add-result
@@ -14,5 +13,5 @@ returns-then-value c =
     rw (bit_shifted _ c.requires.0, c.if-value.true)
 
 pub returns : goal.returns
-returns c =
+returns-then-value c =
     rw c.if-value.false (omega arith)

@@ -1,13 +1,11 @@
 -- `circuit_values::word_written` meets its contract. The loop's invariant: the first t bits make the number.
 
-use Prim.Native.Nat.{◌-◌, ◌≤◌}
+use Prim.Native.Nat.{◌-◌}
 use mathlib.Core.Path.{◌≡◌}
 use native.Mathlib.Omega.{arith}
-use Rattle.model.specs.Bits.{from_bits}
 use Rattle.model.specs.Circuit.{code_value, word_written}
 use Rattle.model.proofs.Bits.{from_bits-below}
 use Rattle.netlist.specs.NetOf.{code_of, net_of}
-use Rattle.netlist.specs.WireTable.{entry}
 use Rattle.circuit_values.proofs.Bits.{from_bits-none, from_bits-next}
 use Rattle.circuit_values.proofs.word_written.Goals as goal
 

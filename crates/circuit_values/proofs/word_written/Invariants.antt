@@ -2,13 +2,10 @@
 
 use Prim.Native.Nat.{◌-◌, ◌≤◌}
 use mathlib.Core.Path.{◌≡◌}
-use native.Mathlib.Omega.{arith}
 use Rattle.model.specs.Bits.{from_bits}
-use Rattle.model.specs.Circuit.{code_value, word_written}
-use Rattle.model.proofs.Bits.{from_bits-below}
-use Rattle.netlist.specs.NetOf.{code_of, net_of}
+use Rattle.model.specs.Circuit.{code_value}
+use Rattle.netlist.specs.NetOf.{code_of}
 use Rattle.netlist.specs.WireTable.{entry}
-use Rattle.circuit_values.proofs.Bits.{from_bits-none, from_bits-next}
 use Rattle.circuit_values.proofs.word_written.Given as goal
 
 abbrev pub invariant-loop-t : goal.invariant-loop-t

@@ -1,6 +1,5 @@
 -- `clause_tseitin::put_same` meets its contract: two clauses.
 
-use borrow.Author.Rules.{rules}
 use Rattle.model.specs.Clauses.{same_clauses}
 use Rattle.clause_tseitin.proofs.put_same.Goals as goal
 

@@ -1,12 +1,11 @@
 -- `dimacs::clauses_fit` meets its contract. The loop's invariant: what remains, and the text of the first i numbers, are the room.
 
-use Prim.Native.Nat.{ℕ, ◌+◌, ◌-◌, ◌≤◌}
+use Prim.Native.Nat.{ℕ, ◌+◌, ◌-◌}
 use mathlib.Core.Path.{◌≡◌, ap, sym, ◌∙◌}
 use mathlib.Core.List.{List, [], ◌∷◌}
 use native.Mathlib.Nat.{add-zero}
 use native.Mathlib.Numerals.{add-one}
 use native.Mathlib.Omega.{arith}
-use borrow.Author.Rules.{rules}
 use borrow.Author.Tests.{le-leb, lt-leb}
 use lib.IntN.{ℤ, pos}
 use lib.ListN.{length, length-append, get_or, take}
@@ -58,7 +57,7 @@ loop-i-preserved c =
     (omega arith, rw (add-one c.loop-i.i, clause_text-next numbers c.loop-i.i (omega arith), length-append (clause_text (take c.loop-i.i numbers)) text) (omega (arith, need (goal.at.loop-i-preserved c).After-number_length-need, c.loop-i.invariant.1)))
 
 pub returns : goal.returns
-returns c =
+returns-then-remaining-need c =
     let numbers : List ℤ = c.args.numbers.now in
     let all : length (clause_text (take c.loop-i.i numbers)) ≡ length (clause_text numbers) =
     ap (λ (zs : List ℤ). length (clause_text zs)) (take_all c.loop-i.i numbers (omega arith)) in

@@ -4,7 +4,6 @@ use Prim.Native.Nat.{◌+◌, ◌<◌}
 use mathlib.Core.Path.{◌≡◌, sym, ap, ◌∙◌}
 use mathlib.Core.List.{◌∷◌}
 use native.Mathlib.Omega.{arith}
-use borrow.Author.Rules.{rules}
 use lib.ListN.{length}
 use Rattle.decimal.specs.Digits.{minus_sign, digits, signed_digits}
 use Rattle.decimal.proofs.WroteAtEnd.{filled-before}
@@ -42,23 +41,23 @@ returns-then-parts-eq0 c =
     rw text c.fill_digits-count.ensures
 
 pub overflow_sub-before : goal.overflow_sub-before
-overflow_sub-before c = omega (arith, byte_left (goal.at.overflow_sub-before c).Else-parts-eq0, c.fill_digits-count.auto.0)
+overflow_sub-before c = omega (arith, byte_left c, c.fill_digits-count.auto.0)
 
 pub overflow_sub-out : goal.overflow_sub-out
-overflow_sub-out c = omega (arith, byte_left (goal.at.overflow_sub-out c).Else-parts-eq0, c.fill_digits-count.auto.0)
+overflow_sub-out c = omega (arith, byte_left c, c.fill_digits-count.auto.0)
 
 pub bounds-out-before : goal.bounds-out-before
-bounds-out-before c = omega (arith, byte_left (goal.at.bounds-out-before c).Else-parts-eq0, c.fill_digits-count.auto.0)
+bounds-out-before c = omega (arith, byte_left c, c.fill_digits-count.auto.0)
 
 pub overflow_add-result : goal.overflow_add-result
 overflow_add-result c =
     omega (arith, parts-length (goal.at.overflow_add-result c).After-parts_of-parts, c.fill_digits-count.ensures.counted, length-signed_digits c.args.z c.ranges.z)
 
 pub returns : goal.returns
-returns c =
+returns-then-parts-eq0 c =
     let e = sym (parts_are (goal.at.returns c).After-parts_of-parts) in
     let sign-is : (parts_of c.args.z).sign ≡ c.parts_of-parts.result.sign = ap (λ (p : Parts). p.sign) e in
     let some : 0 < (parts_of c.args.z).sign = omega (arith, sign-is, c.if-parts-eq0.false) in
     let text : signed_digits c.args.z ≡ minus_sign ∷ digits c.parts_of-parts.result.value =
     signed_digits-minus c.args.z some ∙ ap (λ (p : Parts). minus_sign ∷ digits p.value) e in
-    rw text (filled-before c.fill_digits-count.ensures minus_sign (byte_left (goal.at.returns c).Else-parts-eq0))
+    rw text (filled-before c.fill_digits-count.ensures minus_sign (byte_left c))

@@ -3,7 +3,6 @@
 use Prim.Native.Nat.{ℕ}
 use mathlib.Core.Path.{◌≡◌, sym, ap, ◌∙◌}
 use native.Mathlib.Omega.{arith}
-use borrow.Author.Rules.{rules}
 use borrow.Author.Tests.{le-leb}
 use lib.Dec.{leb}
 use lib.IntN.{ℤ}
@@ -17,7 +16,7 @@ returns-then-room-ge11 c =
     sym (le-leb (length (signed_digits c.args.z)) c.args.room (omega (arith, length-signed_digits c.args.z c.ranges.z)))
 
 pub returns : goal.returns
-returns c =
+returns-then-room-ge11 c =
     let counted : c.number_length.result ≡ length (signed_digits c.args.z) =
     c.number_length.ensures.0 ∙ ap (λ (z : ℤ). length (signed_digits z)) (read_back c.args.z c.ranges.z) in
     ap (λ (n : ℕ). leb n c.args.room) counted

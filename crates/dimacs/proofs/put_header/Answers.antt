@@ -1,7 +1,6 @@
 -- `dimacs::put_header` meets its contract: its test is the header's exact length.
 
 use native.Mathlib.Omega.{arith}
-use borrow.Author.Rules.{rules}
 use Rattle.decimal.proofs.Digits.{length-digits-ten}
 use Rattle.dimacs.specs.Text.{header_text}
 use Rattle.dimacs.proofs.Text.{length-header_text}
@@ -27,5 +26,5 @@ write_header-requires c =
     omega (arith, length-header_text c.args.variables c.args.clauses)
 
 pub returns : goal.returns
-returns c =
+returns-then-out-digit_count c =
     written (header_text c.args.variables c.args.clauses) c.args.out.now c.write_header.new.out c.write_header.result c.write_header.auto.0 c.write_header.ensures

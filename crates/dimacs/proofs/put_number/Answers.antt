@@ -1,7 +1,6 @@
 -- `dimacs::put_number` meets its contract: `number_fits` tests the exact length.
 
 use mathlib.Core.Path.{sym, ◌∙◌}
-use borrow.Author.Rules.{rules}
 use borrow.Author.Tests.{leb-true, leb-false}
 use lib.IntN.{ℤ}
 use lib.ListN.{length}
@@ -25,7 +24,7 @@ returns-then-number_fits c =
     (put.0, (put.1, number-printed))
 
 pub returns : goal.returns
-returns c =
+returns-then-number_fits c =
     let z : ℤ = c.args.z in
     let short = sym c.number_fits.ensures ∙ c.if-number_fits.false in
     let kept = not-filled (signed_digits z) c.args.out.now

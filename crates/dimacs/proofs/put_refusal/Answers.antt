@@ -1,7 +1,6 @@
 -- `dimacs::put_refusal` meets its contract: its test is the text's exact length.
 
 use native.Mathlib.Omega.{arith}
-use borrow.Author.Rules.{rules}
 use Rattle.dimacs.specs.Text.{refusal_text}
 use Rattle.dimacs.proofs.Text.{length-refusal_text}
 use Rattle.dimacs.proofs.PrintCalls.{written, not_written}
@@ -17,5 +16,5 @@ write_refusal-requires c =
     omega (arith, length-refusal_text c.args.number c.args.place c.ranges.number.fits c.ranges.place.fits)
 
 pub returns : goal.returns
-returns c =
+returns-then-out-lt28 c =
     written (refusal_text c.args.number c.args.place) c.args.out.now c.write_refusal.new.out c.write_refusal.result c.write_refusal.auto.0 c.write_refusal.ensures

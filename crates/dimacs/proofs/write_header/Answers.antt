@@ -3,7 +3,6 @@
 use Prim.Native.Nat.{ℕ, ◌+◌, ◌-◌, ◌≤◌}
 use mathlib.Core.List.{List, [], ◌∷◌, ◌++◌}
 use native.Mathlib.Omega.{arith}
-use borrow.Author.Rules.{rules}
 use borrow.Rule.Slice.PartMut.{put_mid}
 use lib.ListN.{length}
 use Rattle.decimal.specs.Digits.{digits, space, line_feed}
@@ -50,7 +49,7 @@ slice_bounds-write_ended-count c =
     behind-within problem (variables (goal.at.slice_bounds-write_ended-count c).After-slice_known-1) (old (goal.at.slice_bounds-write_ended-count c).After-slice_known-1) c.write_word-before.new.out c.write_word-before.result c.write_word-before.ensures (room-first (goal.at.slice_bounds-write_ended-count c).After-slice_known-1)
 
 pub slice_bounds-write_ended-start : goal.slice_bounds-write_ended-start
-slice_bounds-write_ended-start c = omega (arith, sub-write-ended (goal.at.slice_bounds-write_ended-start c).After-slice_known-2-1)
+slice_bounds-write_ended-start c = omega (arith, slice_bounds-write_ended-count c)
 
 pub write_ended-requires : goal.write_ended-requires
 write_ended-requires c =
@@ -64,7 +63,7 @@ slice_bounds-write_ended-count-2 c =
     behind-within (problem ++ variables (goal.at.slice_bounds-write_ended-count-2 c).After-slice_known-1) (clauses (goal.at.slice_bounds-write_ended-count-2 c).After-slice_known-1) (old (goal.at.slice_bounds-write_ended-count-2 c).After-slice_known-1) _ _ (both (goal.at.slice_bounds-write_ended-count-2 c).After-write_ended) (room (goal.at.slice_bounds-write_ended-count-2 c).After-slice_known-1)
 
 pub slice_bounds-write_ended-start-2 : goal.slice_bounds-write_ended-start-2
-slice_bounds-write_ended-start-2 c = omega (arith, sub-write-ended-2 (goal.at.slice_bounds-write_ended-start-2 c).After-slice_known-3-1)
+slice_bounds-write_ended-start-2 c = omega (arith, slice_bounds-write_ended-count-2 c)
 
 pub write_ended-requires-2 : goal.write_ended-requires-2
 write_ended-requires-2 c =
@@ -76,4 +75,4 @@ returns c =
     wrote_then (problem ++ variables (goal.at.returns c).After-slice_known-1) (clauses (goal.at.returns c).After-slice_known-1) (old (goal.at.returns c).After-slice_known-1) _ c.write_ended-2.new.out _ c.write_ended-2.result (both (goal.at.returns c).After-write_ended) c.write_ended-2.ensures
 
 pub overflow_add-result : goal.overflow_add-result
-overflow_add-result c = omega (arith, (returns (goal.at.overflow_add-result c).After-slice_known-4-1).counted, c.requires)
+overflow_add-result c = omega (arith, (returns c).counted, c.requires)

@@ -4,7 +4,6 @@ use Prim.Native.Nat.{◌+◌, ◌≤◌}
 use mathlib.Core.Path.{◌≡◌}
 use mathlib.Core.List.{[], ◌∷◌, ◌++◌}
 use native.Mathlib.Omega.{arith}
-use borrow.Author.Rules.{rules}
 use lib.ListN.{length, length-set}
 use Rattle.decimal.specs.Digits.{digit, space, line_feed, signed_digits}
 use Rattle.decimal.proofs.Signed.{read_back}
@@ -20,20 +19,20 @@ room c =
     rw (number_text-zero c.args.z c.ranges.z c.if-z-eq0.true) at c.requires.1
 
 pub overflow_add-next : goal.overflow_add-next
-overflow_add-next c = omega (arith, room (goal.at.overflow_add-next c).Then-z-eq0)
+overflow_add-next c = omega (arith, room c)
 
 pub bounds-out-at : goal.bounds-out-at
-bounds-out-at c = omega (arith, room (goal.at.bounds-out-at c).Then-z-eq0)
+bounds-out-at c = omega (arith, room c)
 
 pub bounds-out-next : goal.bounds-out-next
-bounds-out-next c = simp length-set (omega (arith, room (goal.at.bounds-out-next c).Then-z-eq0))
+bounds-out-next c = simp length-set (omega (arith, room c))
 
 pub overflow_add-result : goal.overflow_add-result
-overflow_add-result c = omega (arith, room (goal.at.overflow_add-result c).Then-z-eq0)
+overflow_add-result c = omega (arith, room c)
 
 pub returns-then-z-eq0 : goal.returns-then-z-eq0
 returns-then-z-eq0 c =
-    rw (number_text-zero c.args.z c.ranges.z c.if-z-eq0.true) (extends-two (digit 0) line_feed c.args.out.now c.args.at (room (goal.at.returns-then-z-eq0 c).Then-z-eq0))
+    rw (number_text-zero c.args.z c.ranges.z c.if-z-eq0.true) (extends-two (digit 0) line_feed c.args.out.now c.args.at (room c))
 
 -- any other number has a space behind it
 spaced : (c : Else-z-eq0) → number_text c.args.z ≡ signed_digits c.args.z ++ space ∷ []
@@ -44,5 +43,5 @@ write_signed_spaced-requires c =
     (c.requires.0, rw (read_back c.args.z c.ranges.z) (rw (spaced (goal.at.write_signed_spaced-requires c).Else-z-eq0) at c.requires.1))
 
 pub returns : goal.returns
-returns c =
+returns-then-z-eq0 c =
     rw (spaced (goal.at.returns c).Else-z-eq0) (rw (read_back c.args.z c.ranges.z) at c.write_signed_spaced.ensures)

@@ -3,7 +3,6 @@
 use Prim.Native.Nat.{ℕ, ◌+◌, ◌-◌, ◌≤◌}
 use mathlib.Core.List.{List, [], ◌∷◌, ◌++◌}
 use native.Mathlib.Omega.{arith}
-use borrow.Author.Rules.{rules}
 use borrow.Rule.Slice.PartMut.{put_mid}
 use lib.ListN.{length}
 use Rattle.decimal.specs.Digits.{line_feed, field}
@@ -63,7 +62,7 @@ slice_bounds-put_field-count c =
     behind-within refused (number (goal.at.slice_bounds-put_field-count c).After-slice_known-1) (old (goal.at.slice_bounds-put_field-count c).After-slice_known-1) c.write_word-before.new.out c.write_word-before.result c.write_word-before.ensures (room-number (goal.at.slice_bounds-put_field-count c).After-slice_known-1)
 
 pub slice_bounds-put_field-start : goal.slice_bounds-put_field-start
-slice_bounds-put_field-start c = omega (arith, sub-put-field (goal.at.slice_bounds-put_field-start c).After-slice_known-2-1)
+slice_bounds-put_field-start c = omega (arith, slice_bounds-put_field-count c)
 
 pub put_field-requires : goal.put_field-requires
 put_field-requires c =
@@ -77,7 +76,7 @@ slice_bounds-put_field-count-2 c =
     behind-within (refused ++ number (goal.at.slice_bounds-put_field-count-2 c).After-slice_known-1) (place (goal.at.slice_bounds-put_field-count-2 c).After-slice_known-1) (old (goal.at.slice_bounds-put_field-count-2 c).After-slice_known-1) _ _ (numbered (goal.at.slice_bounds-put_field-count-2 c).After-put_field) (room-place (goal.at.slice_bounds-put_field-count-2 c).After-slice_known-1)
 
 pub slice_bounds-put_field-start-2 : goal.slice_bounds-put_field-start-2
-slice_bounds-put_field-start-2 c = omega (arith, sub-put-field-2 (goal.at.slice_bounds-put_field-start-2 c).After-slice_known-3-1)
+slice_bounds-put_field-start-2 c = omega (arith, slice_bounds-put_field-count-2 c)
 
 pub put_field-requires-2 : goal.put_field-requires-2
 put_field-requires-2 c =
@@ -91,7 +90,7 @@ slice_bounds-write_byte-count c =
     behind-within (refused ++ number (goal.at.slice_bounds-write_byte-count c).After-slice_known-1 ++ place (goal.at.slice_bounds-write_byte-count c).After-slice_known-1) (line_feed ∷ []) (old (goal.at.slice_bounds-write_byte-count c).After-slice_known-1) _ _ (placed (goal.at.slice_bounds-write_byte-count c).After-put_field-2) (room (goal.at.slice_bounds-write_byte-count c).After-slice_known-1)
 
 pub slice_bounds-write_byte-start : goal.slice_bounds-write_byte-start
-slice_bounds-write_byte-start c = omega (arith, sub-write-byte (goal.at.slice_bounds-write_byte-start c).After-slice_known-4-1)
+slice_bounds-write_byte-start c = omega (arith, slice_bounds-write_byte-count c)
 
 pub write_byte-requires : goal.write_byte-requires
 write_byte-requires c =
@@ -103,4 +102,4 @@ returns c =
     wrote_then (refused ++ number (goal.at.returns c).After-slice_known-1 ++ place (goal.at.returns c).After-slice_known-1) (line_feed ∷ []) (old (goal.at.returns c).After-slice_known-1) _ c.write_byte.new.out _ c.write_byte.result (placed (goal.at.returns c).After-put_field-2) c.write_byte.ensures
 
 pub overflow_add-result : goal.overflow_add-result
-overflow_add-result c = omega (arith, (returns (goal.at.overflow_add-result c).After-slice_known-5-1).counted, c.requires)
+overflow_add-result c = omega (arith, (returns c).counted, c.requires)

@@ -1,7 +1,6 @@
 -- `frames::print_answer` meets its contract: the refusal is all that is printed, or the formula is.
 
 use native.Mathlib.Omega.{arith}
-use borrow.Author.Rules.{rules}
 use Rattle.program_output.proofs.Printed.{refused-frames}
 use Rattle.frames.proofs.print_answer.Goals as goal
 

@@ -1,7 +1,7 @@
 -- `frames::print_clauses` meets its contract. The loop's invariant: what was written is the output up to the group that comes next, whose text and
 -- that of the groups behind it is due. Each piece leaves fewer groups, so the loop ends; and no piece is longer than its buffer, so the count fits.
 
-use Prim.Native.Nat.{◌+◌, ◌*◌, ◌≤◌}
+use Prim.Native.Nat.{◌≤◌}
 use mathlib.Core.Path.{◌≡◌, sym, ◌∙◌}
 use native.Mathlib.Omega.{arith}
 use borrow.Author.Rules.{rules}
@@ -11,9 +11,7 @@ use lib.Seq.{length-take-le}
 use Rattle.model.specs.Netlist.{ports}
 use Rattle.netlist.specs.NetOf.{net_of, alone}
 use Rattle.netlist.proofs.NetOf.{sizes-lists}
-use Rattle.text_writer.specs.Table.{table_below}
 use Rattle.text_writer.proofs.Table.{filled-table}
-use Rattle.group_order.specs.Next.{remaining_from}
 use Rattle.group_order.specs.declared.Next.TheVariants.{Then}
 use Rattle.group_order.proofs.Remaining.{first-remaining}
 use Rattle.program_output.specs.Printed.{frames_text}

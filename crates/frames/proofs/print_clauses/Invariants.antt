@@ -2,24 +2,14 @@
 -- that of the groups behind it is due. Each piece leaves fewer groups, so the loop ends; and no piece is longer than its buffer, so the count fits.
 
 use Prim.Native.Nat.{◌+◌, ◌*◌, ◌≤◌}
-use mathlib.Core.Path.{◌≡◌, sym, ◌∙◌}
-use native.Mathlib.Omega.{arith}
-use borrow.Author.Rules.{rules}
-use mathlib.Core.List.{[]}
-use lib.ListN.{length, take}
-use lib.Seq.{length-take-le}
+use mathlib.Core.Path.{◌≡◌}
+use lib.ListN.{length}
 use Rattle.model.specs.Netlist.{ports}
 use Rattle.netlist.specs.NetOf.{net_of, alone}
-use Rattle.netlist.proofs.NetOf.{sizes-lists}
 use Rattle.text_writer.specs.Table.{table_below}
-use Rattle.text_writer.proofs.Table.{filled-table}
 use Rattle.group_order.specs.Next.{remaining_from}
-use Rattle.group_order.specs.declared.Next.TheVariants.{Then}
-use Rattle.group_order.proofs.Remaining.{first-remaining}
 use Rattle.program_output.specs.Printed.{frames_text}
-use Rattle.program_output.specs.Pieces.{Continues}
-use Rattle.program_output.proofs.Pieces.{due-order_has}
-use Rattle.program_output.proofs.Printed.{taken-frames, PrintedSo, header-printed, piece-stands, piece-printed, all-printed}
+use Rattle.program_output.proofs.Printed.{PrintedSo}
 use Rattle.frames.proofs.print_clauses.Given as goal
 
 abbrev pub invariant-loop-next : goal.invariant-loop-next

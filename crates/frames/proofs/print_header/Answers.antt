@@ -15,6 +15,9 @@ use Rattle.program_output.proofs.Printed.{taken-frames, first-stands}
 use Rattle.frames.proofs.print_header.Goals as goal
 use Rattle.frames.proofs.print_header.Goals.{After-print_header-bytes}
 
+pub slice_bounds-text-end : goal.slice_bounds-text-end
+slice_bounds-text-end c = search rules
+
 pub print_header-bytes-requires : goal.print_header-bytes-requires
 print_header-bytes-requires c =
     let taken = c.requires.0 in
@@ -27,7 +30,7 @@ counted c =
     omega (arith, ap length (wrote-front w.0), w.0.counted, w.1)
 
 pub slice_bounds-write_next-end : goal.slice_bounds-write_next-end
-slice_bounds-write_next-end c = sym (length-take-le _ _ (array-share-prefix-text (goal.at.slice_bounds-write_next-end c).After-write_next-arg-2-1))
+slice_bounds-write_next-end c = sym (length-take-le _ _ (slice_bounds-text-end (goal.at.slice_bounds-write_next-end c).After-write_next-arg-2-1))
 
 pub write_next-requires : goal.write_next-requires
 write_next-requires c =

@@ -3,7 +3,6 @@
 use mathlib.Core.Path.{◌≡◌, sym, ◌∙◌, ap}
 use mathlib.Core.List.{append-nil}
 use native.Mathlib.Omega.{arith}
-use borrow.Author.Rules.{rules}
 use lib.ListN.{length, take}
 use lib.Seq.{length-take-le}
 use Rattle.dimacs.specs.Text.{refusal_text}
@@ -30,7 +29,7 @@ slice_bounds-text-end c =
     omega (arith, counted (goal.at.slice_bounds-text-end c).After-write_refusal-bytes, c.write_refusal-bytes.auto.0)
 
 pub slice_bounds-write_next-end : goal.slice_bounds-write_next-end
-slice_bounds-write_next-end c = sym (length-take-le _ _ (array-share-prefix-text (goal.at.slice_bounds-write_next-end c).After-write_next-arg-2-1))
+slice_bounds-write_next-end c = sym (length-take-le _ _ (slice_bounds-text-end (goal.at.slice_bounds-write_next-end c).After-write_next-arg-2-1))
 
 pub write_next-requires : goal.write_next-requires
 write_next-requires c =

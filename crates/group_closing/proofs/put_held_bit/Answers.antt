@@ -1,6 +1,5 @@
 -- `group_closing::put_held_bit` meets its contract.
 
-use borrow.Author.Rules.{rules}
 use Rattle.group_closing.proofs.put_held_bit.Goals as goal
 
 pub returns : goal.returns

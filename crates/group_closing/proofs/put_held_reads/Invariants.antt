@@ -1,16 +1,9 @@
 -- `group_closing::put_held_reads` meets its contract. The loop has written the bits passed.
 
 use Prim.Native.Nat.{◌-◌}
-use mathlib.Core.Path.{◌∙◌, ap}
-use native.Mathlib.Omega.{arith}
-use borrow.Author.Rules.{rules}
-use Rattle.model.specs.Clauses.{neg}
-use Rattle.netlist.specs.NetOf.{net_of}
 use Rattle.literals.specs.Lit.{literal_of}
-use Rattle.clause_variables.specs.PortOf.{port_of}
-use Rattle.clause_variables.proofs.Room.{wire-has-number, code-has-number}
-use Rattle.clause_writer.proofs.Turns.{Turns, turns-start, turns-room, turns-count, turns_next, turns-end}
-use Rattle.group_closing.proofs.OfClosing.{held_bit, held-bits}
+use Rattle.clause_writer.proofs.Turns.{Turns}
+use Rattle.group_closing.proofs.OfClosing.{held_bit}
 use Rattle.group_closing.proofs.put_held_reads.Given as goal
 
 abbrev pub invariant-loop-t : goal.invariant-loop-t

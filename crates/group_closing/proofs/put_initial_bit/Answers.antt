@@ -1,6 +1,5 @@
 -- `group_closing::put_initial_bit` meets its contract.
 
-use borrow.Author.Rules.{rules}
 use Rattle.group_closing.proofs.put_initial_bit.Goals as goal
 
 pub returns : goal.returns

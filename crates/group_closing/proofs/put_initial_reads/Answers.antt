@@ -4,11 +4,10 @@ use Prim.Native.Nat.{◌-◌}
 use native.Mathlib.Omega.{arith}
 use borrow.Author.Rules.{rules}
 use Rattle.netlist.specs.NetOf.{net_of}
-use Rattle.literals.specs.Lit.{literal_of}
 use Rattle.clause_variables.specs.PortOf.{port_of}
 use Rattle.clause_variables.proofs.Room.{wire-has-number}
-use Rattle.clause_writer.proofs.Turns.{Turns, turns-start, turns-room, turns-count, turns_next, turns-end}
-use Rattle.group_closing.proofs.OfClosing.{initial_bit, initial-bits}
+use Rattle.clause_writer.proofs.Turns.{turns-start, turns-room, turns-count, turns_next, turns-end}
+use Rattle.group_closing.proofs.OfClosing.{initial-bits}
 use Rattle.group_closing.proofs.put_initial_reads.Goals as goal
 
 pub none_since-none_since-requires : goal.none_since-none_since-requires

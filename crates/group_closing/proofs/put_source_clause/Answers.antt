@@ -19,7 +19,7 @@ put_sources-requires c = (search rules, search rules)
 pub returns : goal.returns
 returns c =
     let idle = literal_of c.args.idle in
-    let none = literal_of c.args.none-since in
+    let none = literal_of c.args.none_since in
     let sources = gather c.args.i (selected_of (of_closing c.args.net c.args.port c.args.i)) in
     let first = c.put_literal-a.ensures in
     let second = c.put_literal.ensures in

@@ -6,8 +6,8 @@ use borrow.Author.Rules.{rules}
 use Rattle.netlist.specs.NetOf.{net_of, alone}
 use Rattle.clause_variables.specs.PortOf.{port_of}
 use Rattle.clause_variables.proofs.Room.{pair-has-number}
-use Rattle.clause_writer.proofs.Turns.{Turns, turns-start, turns-room, turns-count, turns_next, turns-end}
-use Rattle.group_closing.proofs.OfClosing.{source-base, source_at, sources}
+use Rattle.clause_writer.proofs.Turns.{turns-start, turns-room, turns-count, turns_next, turns-end}
+use Rattle.group_closing.proofs.OfClosing.{source-base, sources}
 use Rattle.group_closing.proofs.put_sources.Goals as goal
 
 pub pair_base-q-requires : goal.pair_base-q-requires

@@ -1,13 +1,12 @@
 -- `group_counts::count_ends` meets its contract. The loop has counted the end marks passed.
 
-use Prim.Native.Nat.{◌-◌, ◌≤◌}
+use Prim.Native.Nat.{◌-◌}
 use mathlib.Core.Path.{◌≡◌, refl, ◌∙◌, ap}
 use mathlib.Core.List.{List, [], ◌∷◌}
 use native.Mathlib.Numerals.{add-one}
 use native.Mathlib.Omega.{arith}
-use borrow.Author.Rules.{rules}
 use lib.IntN.{ℤ, pos}
-use lib.ListN.{length, get_or, take}
+use lib.ListN.{length, get_or}
 use lib.Seq.{take_all}
 use Rattle.model.specs.Numbers.{split_after, clauses_in}
 use Rattle.group_counts.proofs.Counted.{element-is, ends_next}
@@ -43,7 +42,7 @@ pub loop-i-preserved : goal.loop-i-preserved
 loop-i-preserved c =
     let numbers : List ℤ = c.args.numbers.now in (
       omega arith,
-      rw (add-one, ends_next numbers c.loop-i.i (omega arith)) (omega (arith, more (goal.at.loop-i-preserved c).After-count_end-ends, c.loop-i.invariant.1)),
+      rw (add-one, ends_next numbers c.loop-i.i (omega arith)) (omega (arith, more c, c.loop-i.invariant.1)),
       omega (arith, c.loop-i.invariant.2, c.count_end-ends.ensures.1),
     )
 

@@ -1,16 +1,9 @@
 -- `group_counts::count_ends` meets its contract. The loop has counted the end marks passed.
 
 use Prim.Native.Nat.{◌-◌, ◌≤◌}
-use mathlib.Core.Path.{◌≡◌, refl, ◌∙◌, ap}
-use mathlib.Core.List.{List, [], ◌∷◌}
-use native.Mathlib.Numerals.{add-one}
-use native.Mathlib.Omega.{arith}
-use borrow.Author.Rules.{rules}
-use lib.IntN.{ℤ, pos}
-use lib.ListN.{length, get_or, take}
-use lib.Seq.{take_all}
-use Rattle.model.specs.Numbers.{split_after, clauses_in}
-use Rattle.group_counts.proofs.Counted.{element-is, ends_next}
+use mathlib.Core.Path.{◌≡◌}
+use lib.ListN.{length, take}
+use Rattle.model.specs.Numbers.{clauses_in}
 use Rattle.group_counts.proofs.count_ends.Given as goal
 
 abbrev pub invariant-loop-i : goal.invariant-loop-i

@@ -40,9 +40,9 @@ most c =
     omega (arith, c.count_ends.ensures.1, group.1)
 
 pub overflow_cast-result : goal.overflow_cast-result
-overflow_cast-result c = omega (arith, most (goal.at.overflow_cast-result c).After-count_ends)
+overflow_cast-result c = omega (arith, most c)
 
 pub returns : goal.returns
 returns c =
     let w = c.put_group-count.ensures.0 in
-    record { value = (c.count_ends.ensures.0 ∙ ap (λ (zs : List ℤ). length (clauses_in zs)) (wrote-front w), most (goal.at.returns c).After-count_ends); scratch = search rules }
+    record { value = (c.count_ends.ensures.0 ∙ ap (λ (zs : List ℤ). length (clauses_in zs)) (wrote-front w), most c); scratch = search rules }

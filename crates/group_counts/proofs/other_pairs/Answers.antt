@@ -3,7 +3,6 @@
 use native.Mathlib.Omega.{arith}
 use Rattle.model.proofs.Classes.{pairs-least}
 use Rattle.group_counts.proofs.Counted.{pairs-most}
-use borrow.Author.Rules.{rules}
 use Rattle.group_counts.proofs.other_pairs.Goals as goal
 
 pub overflow_mul-result : goal.overflow_mul-result

@@ -1,6 +1,5 @@
 -- `group_latches::put_latch` meets its contract.
 
-use borrow.Author.Rules.{rules}
 use Rattle.group_latches.proofs.put_latch.Goals as goal
 
 pub returns : goal.returns

@@ -7,8 +7,8 @@ use borrow.Author.Rules.{rules}
 use Rattle.netlist.specs.NetOf.{net_of}
 use Rattle.netlist.proofs.NetOf.{sizes-lists}
 use Rattle.clause_variables.proofs.Room.{wire-has-number}
-use Rattle.clause_writer.proofs.Turns.{Turns, turns-start, turns-room, turns-count, turns_next, turns-end}
-use Rattle.group_latches.proofs.StateOf.{reset_at, resets}
+use Rattle.clause_writer.proofs.Turns.{turns-start, turns-room, turns-count, turns_next, turns-end}
+use Rattle.group_latches.proofs.StateOf.{resets}
 use Rattle.group_latches.proofs.put_resets.Goals as goal
 
 pub frame_base-b-requires : goal.frame_base-b-requires

@@ -1,7 +1,6 @@
 -- `group_order::is_in_depth` meets its contract: each arm is the definition at its kind.
 
 use Rattle.model.specs.Groups.{in_depth}
-use borrow.Author.Rules.{rules}
 use Rattle.group_order.proofs.is_in_depth.Goals as goal
 
 pub returns-in-Wires : goal.returns-in-Wires

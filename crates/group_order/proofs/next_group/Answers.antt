@@ -2,7 +2,6 @@
 -- its kind.
 
 use mathlib.Core.Path.{◌≡◌, refl, sym, ◌∙◌}
-use borrow.Author.Rules.{rules}
 use borrow.Author.Tests.{eq-eqb, ne_eqb, lt-ltb, le-ltb, not-true, not-false}
 use Rattle.model.specs.declared.Group.{Group}
 use Rattle.group_order.specs.declared.Next.{Next}

@@ -1,6 +1,5 @@
 -- `group_pair::put_agreed_bit` meets its contract.
 
-use borrow.Author.Rules.{rules}
 use Rattle.group_pair.proofs.put_agreed_bit.Goals as goal
 
 pub returns : goal.returns

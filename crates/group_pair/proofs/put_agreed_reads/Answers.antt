@@ -4,11 +4,10 @@ use Prim.Native.Nat.{◌-◌}
 use native.Mathlib.Omega.{arith}
 use borrow.Author.Rules.{rules}
 use Rattle.netlist.specs.NetOf.{net_of}
-use Rattle.literals.specs.Lit.{literal_of}
 use Rattle.clause_variables.specs.PortOf.{port_of}
 use Rattle.clause_variables.proofs.Room.{wire-has-number, numbered}
-use Rattle.clause_writer.proofs.Turns.{Turns, turns-start, turns-room, turns-count, turns_next, turns-end}
-use Rattle.group_pair.proofs.OfPair.{agreed_bit, agreed-bits}
+use Rattle.clause_writer.proofs.Turns.{turns-start, turns-room, turns-count, turns_next, turns-end}
+use Rattle.group_pair.proofs.OfPair.{agreed-bits}
 use Rattle.group_pair.proofs.put_agreed_reads.Goals as goal
 
 pub in_pair-address_equal-requires : goal.in_pair-address_equal-requires

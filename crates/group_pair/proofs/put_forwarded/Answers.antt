@@ -6,9 +6,8 @@ use borrow.Author.Rules.{rules}
 use Rattle.netlist.specs.NetOf.{code_of, net_of}
 use Rattle.clause_variables.specs.PortOf.{port_of}
 use Rattle.clause_variables.proofs.Room.{wire-has-number, code-has-number}
-use Rattle.literals.specs.Lit.{literal_of}
-use Rattle.clause_writer.proofs.Turns.{Turns, turns-start, turns-room, turns-count, turns_next, turns-end}
-use Rattle.group_pair.proofs.OfPair.{forwarded_bit, forwarded-bits}
+use Rattle.clause_writer.proofs.Turns.{turns-start, turns-room, turns-count, turns_next, turns-end}
+use Rattle.group_pair.proofs.OfPair.{forwarded-bits}
 use Rattle.group_pair.proofs.put_forwarded.Goals as goal
 
 pub selected-selected-requires : goal.selected-selected-requires

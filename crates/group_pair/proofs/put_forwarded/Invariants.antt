@@ -1,14 +1,9 @@
 -- `group_pair::put_forwarded` meets its contract. The loop has written the bits passed.
 
 use Prim.Native.Nat.{◌-◌}
-use native.Mathlib.Omega.{arith}
-use borrow.Author.Rules.{rules}
-use Rattle.netlist.specs.NetOf.{code_of, net_of}
-use Rattle.clause_variables.specs.PortOf.{port_of}
-use Rattle.clause_variables.proofs.Room.{wire-has-number, code-has-number}
 use Rattle.literals.specs.Lit.{literal_of}
-use Rattle.clause_writer.proofs.Turns.{Turns, turns-start, turns-room, turns-count, turns_next, turns-end}
-use Rattle.group_pair.proofs.OfPair.{forwarded_bit, forwarded-bits}
+use Rattle.clause_writer.proofs.Turns.{Turns}
+use Rattle.group_pair.proofs.OfPair.{forwarded_bit}
 use Rattle.group_pair.proofs.put_forwarded.Given as goal
 
 abbrev pub invariant-loop-t : goal.invariant-loop-t

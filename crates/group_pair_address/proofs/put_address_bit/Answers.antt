@@ -2,7 +2,6 @@
 
 use mathlib.Core.Path.{sym}
 use native.Mathlib.Nat.{add_assoc}
-use borrow.Author.Rules.{rules}
 use Rattle.group_pair_address.proofs.put_address_bit.Goals as goal
 
 pub returns : goal.returns

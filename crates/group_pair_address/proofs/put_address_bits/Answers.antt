@@ -7,8 +7,8 @@ use Rattle.model.proofs.Ports.{first-port}
 use Rattle.netlist.specs.NetOf.{code_of, net_of, alone}
 use Rattle.clause_variables.specs.PortOf.{port_of}
 use Rattle.clause_variables.proofs.Room.{code-numbered, pair-has-number}
-use Rattle.clause_writer.proofs.Turns.{Turns, turns-start, turns-room, turns-count, turns_next, turns-end}
-use Rattle.group_pair_address.proofs.BitsOf.{address_bit, address-bits}
+use Rattle.clause_writer.proofs.Turns.{turns-start, turns-room, turns-count, turns_next, turns-end}
+use Rattle.group_pair_address.proofs.BitsOf.{address-bits}
 use Rattle.group_pair_address.proofs.put_address_bits.Goals as goal
 
 pub pair_base-q-requires : goal.pair_base-q-requires

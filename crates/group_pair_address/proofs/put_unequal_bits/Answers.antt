@@ -5,8 +5,8 @@ use native.Mathlib.Omega.{arith}
 use borrow.Author.Rules.{rules}
 use Rattle.netlist.specs.NetOf.{net_of}
 use Rattle.clause_variables.proofs.Room.{pair-has-number}
-use Rattle.clause_writer.proofs.Turns.{Turns, turns-start, turns-room, turns-count, turns_next, turns-end}
-use Rattle.group_pair_address.proofs.BitsOf.{unequal_bit, unequal-bits}
+use Rattle.clause_writer.proofs.Turns.{turns-start, turns-room, turns-count, turns_next, turns-end}
+use Rattle.group_pair_address.proofs.BitsOf.{unequal-bits}
 use Rattle.group_pair_address.proofs.put_unequal_bits.Goals as goal
 
 pub pair_base-q-requires : goal.pair_base-q-requires

@@ -1,12 +1,8 @@
 -- `group_pair_address::put_unequal_bits` meets its contract. The loop has written the bits passed.
 
 use Prim.Native.Nat.{◌-◌}
-use native.Mathlib.Omega.{arith}
-use borrow.Author.Rules.{rules}
-use Rattle.netlist.specs.NetOf.{net_of}
-use Rattle.clause_variables.proofs.Room.{pair-has-number}
-use Rattle.clause_writer.proofs.Turns.{Turns, turns-start, turns-room, turns-count, turns_next, turns-end}
-use Rattle.group_pair_address.proofs.BitsOf.{unequal_bit, unequal-bits}
+use Rattle.clause_writer.proofs.Turns.{Turns}
+use Rattle.group_pair_address.proofs.BitsOf.{unequal_bit}
 use Rattle.group_pair_address.proofs.put_unequal_bits.Given as goal
 
 abbrev pub invariant-loop-t : goal.invariant-loop-t

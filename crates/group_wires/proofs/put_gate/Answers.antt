@@ -1,6 +1,5 @@
 -- `group_wires::put_gate` meets its contract.
 
-use borrow.Author.Rules.{rules}
 use Rattle.group_wires.proofs.put_gate.Goals as goal
 
 pub returns : goal.returns

@@ -1,14 +1,8 @@
 -- `group_wires::put_gates` meets its contract. The loop has written the gates passed.
 
 use Prim.Native.Nat.{◌-◌}
-use mathlib.Core.List.{[]}
-use native.Mathlib.Omega.{arith}
-use borrow.Author.Rules.{rules}
-use Rattle.netlist.specs.NetOf.{net_of}
-use Rattle.netlist.proofs.NetOf.{sizes-lists}
-use Rattle.clause_variables.proofs.Room.{wire-has-number, code-has-number}
-use Rattle.clause_writer.proofs.Turns.{Turns, turns-start, turns-room, turns-count, turns_next, turns-end}
-use Rattle.group_wires.proofs.WiresOf.{gate_at, all-gates}
+use Rattle.clause_writer.proofs.Turns.{Turns}
+use Rattle.group_wires.proofs.WiresOf.{gate_at}
 use Rattle.group_wires.proofs.put_gates.Given as goal
 
 abbrev pub invariant-loop-g : goal.invariant-loop-g

@@ -3,7 +3,6 @@
 use native.Mathlib.Omega.{arith}
 use Rattle.netlist.proofs.NetOf.{limits-alone}
 use Rattle.groups.proofs.Alone.{port-alone, fits-alone, pair-alone, closing-alone, property-alone, wires-count, pair-count, closing-count, property-count, wires-depth, wrote-by-kind, wires-frame, pair-frames, closing-frame}
-use borrow.Author.Rules.{rules}
 use Rattle.groups.proofs.put_group.Goals as goal
 
 pub put_wires-requires : goal.put_wires-requires

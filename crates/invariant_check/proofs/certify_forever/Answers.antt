@@ -8,7 +8,6 @@ use Rattle.sheet_tests.proofs.Codes.{passed-sheet}
 use Rattle.sheet_steps.proofs.Records.{verdict-is, holds}
 use Rattle.refutation_depth.specs.declared.CertificateReply.{CertificateReply}
 use Rattle.invariant_check.proofs.Certificate.{refused-sent, refused-kept, taken-sent, taken-store, taken-scratch, certified-forever}
-use borrow.Author.Rules.{rules}
 use Rattle.invariant_check.proofs.certify_forever.Goals as goal
 
 pub returns-in-Refused : goal.returns-in-Refused
@@ -33,7 +32,7 @@ certify_net-requires c =
     sizes-lists _ _ _ [] [] sizes
 
 pub returns : goal.returns
-returns c =
+returns-in-Refused c =
     let read = c.read_codes-sheet.ensures in
     let v = sym (verdict-is read) ∙ c.in_default.is in
     let told = rw (holds read v).net-is at c.certify_net.ensures in

@@ -7,7 +7,6 @@ use Rattle.refusals.proofs.Slices.{room-enough, room-short}
 use Rattle.refutation_depth.specs.Certificate.{certificate_reply, scratch_after}
 use Rattle.invariant_check.specs.ForeverCall.{store_need}
 use lib.ListN.{length}
-use borrow.Author.Rules.{rules}
 use Rattle.invariant_check.proofs.certify_net.Goals as goal
 
 pub returns-then-store-need : goal.returns-then-store-need
@@ -23,7 +22,7 @@ check_step-requires c =
 
 pub returns : goal.returns
 unfolding contents_after scratch_after store_need
-returns c =
+returns-then-store-need c =
     let v = room-enough (store_need (length c.args.invariant.now) (length c.args.requests.now) (length c.args.lemmas.now)) (length c.args.store.now) (omega (arith, c.if-store-need.false)) in
     let checked = c.check_step.ensures in
     (c.reply_of.ensures ∙ rw (v, checked.0), (rw v checked.1.0, rw v checked.1.1))

@@ -8,7 +8,6 @@ use Rattle.netlist.specs.NetOf.{net_of}
 use Rattle.refutation_depth.proofs.Certificate.{laid-length, laid-found}
 use Rattle.invariant_check.proofs.Certificate.{length-formula, start-lists, all-scratch}
 use Rattle.invariant_check.specs.ForeverCall.{store_need, step_found, step_scratch}
-use borrow.Author.Rules.{rules}
 use Rattle.invariant_check.proofs.check_step.Goals as goal
 
 pub overflow_add-end : goal.overflow_add-end
@@ -43,7 +42,7 @@ returns-then-holds_at_start c =
 
 pub returns : goal.returns
 unfolding step_found step_scratch
-returns c =
+returns-then-holds_at_start c =
     let laid = c.lay-front.ensures in
     let fails = sym (start-lists c.args.net c.args.latches.now c.args.gates.now c.args.invariant.now) ∙ sym c.holds_at_start.ensures ∙ c.if-holds_at_start.false in
     (rw fails, (laid.1, refl))

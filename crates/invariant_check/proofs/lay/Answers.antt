@@ -4,7 +4,6 @@ use native.Mathlib.Omega.{arith}
 use Rattle.model.proofs.Wrote.{wrote_then, rest-within, rest-room}
 use Rattle.invariant_formula.specs.Formula.{step_formula}
 use Rattle.invariant_check.specs.ForeverCall.{store_need}
-use borrow.Author.Rules.{rules}
 use Rattle.invariant_check.proofs.lay.Goals as goal
 
 pub put_requests-at-requires : goal.put_requests-at-requires

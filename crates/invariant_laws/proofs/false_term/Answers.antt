@@ -1,7 +1,6 @@
 -- `invariant_laws::false_term` meets its contract.
 
 use Rattle.invariant_laws.specs.LawForms.{false_term}
-use borrow.Author.Rules.{rules}
 use Rattle.invariant_laws.proofs.false_term.Goals as goal
 
 pub returns : goal.returns

@@ -1,7 +1,6 @@
 -- `invariant_laws::no_law` meets its contract.
 
 use Rattle.invariant_laws.specs.LawForms.{no_law}
-use borrow.Author.Rules.{rules}
 use Rattle.invariant_laws.proofs.no_law.Goals as goal
 
 pub returns : goal.returns

@@ -2,7 +2,6 @@
 
 use mathlib.Core.Path.{◌∙◌}
 use Rattle.invariant_laws.specs.LawForms.{same}
-use borrow.Author.Rules.{rules}
 use Rattle.invariant_laws.proofs.same.Goals as goal
 
 pub returns : goal.returns

@@ -1,7 +1,6 @@
 -- `invariant_laws::true_term` meets its contract.
 
 use Rattle.invariant_laws.specs.LawForms.{false_term, true_term}
-use borrow.Author.Rules.{rules}
 use Rattle.invariant_laws.proofs.true_term.Goals as goal
 
 pub returns : goal.returns

@@ -2,7 +2,6 @@
 
 use mathlib.Core.Path.{◌∙◌}
 use Rattle.invariant_laws.specs.LawForms.{where_both}
-use borrow.Author.Rules.{rules}
 use Rattle.invariant_laws.proofs.where_both.Goals as goal
 
 pub returns : goal.returns

@@ -1,7 +1,6 @@
 -- `invariant_laws::where_false` meets its contract.
 
 use Rattle.invariant_laws.specs.LawForms.{where_false}
-use borrow.Author.Rules.{rules}
 use Rattle.invariant_laws.proofs.where_false.Goals as goal
 
 pub returns : goal.returns

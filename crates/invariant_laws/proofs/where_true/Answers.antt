@@ -1,7 +1,6 @@
 -- `invariant_laws::where_true` meets its contract.
 
 use Rattle.invariant_laws.specs.LawForms.{where_true}
-use borrow.Author.Rules.{rules}
 use Rattle.invariant_laws.proofs.where_true.Goals as goal
 
 pub returns : goal.returns

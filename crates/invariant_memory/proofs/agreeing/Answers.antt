@@ -4,7 +4,6 @@ use Prim.Native.Nat.{◌/◌, ◌%◌, ◌^◌}
 use mathlib.Core.Path.{◌∙◌}
 use borrow.Author.Tests.{eq-eqb, ne_eqb}
 use Rattle.model.specs.Bits.{odd, bit}
-use borrow.Author.Rules.{rules}
 use Rattle.invariant_memory.proofs.agreeing.Goals as goal
 
 pub returns-then-y-t-eq1 : goal.returns-then-y-t-eq1
@@ -14,5 +13,5 @@ returns-then-y-t-eq1 c =
 
 pub returns : goal.returns
 unfolding bit odd
-returns c =
+returns-then-y-t-eq1 c =
     c.opposite.ensures ∙ rw (ne_eqb (c.args.y / 2 ^ c.args.t % 2) 1 c.if-y-t-eq1.false)

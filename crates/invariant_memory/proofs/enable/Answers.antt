@@ -6,7 +6,6 @@ use mathlib.Core.Path.{ap, ◌∙◌}
 use Rattle.model.specs.Netlist as M
 use Rattle.clause_variables.specs.PortOf.{port_of}
 use Rattle.netlist.specs.NetOf.{net_of}
-use borrow.Author.Rules.{rules}
 use Rattle.invariant_memory.proofs.enable.Goals as goal
 
 pub overflow_add-q : goal.overflow_add-q

@@ -9,7 +9,6 @@ use Rattle.model.specs.Netlist as M
 use Rattle.clause_variables.specs.PortOf.{port_of}
 use Rattle.netlist.specs.NetOf.{code_of, net_of}
 use Rattle.invariant_axioms.specs.Laws.{match_law}
-use borrow.Author.Rules.{rules}
 use Rattle.invariant_memory.proofs.match_law.Goals as goal
 
 pub returns-then-net-q : goal.returns-then-net-q
@@ -44,7 +43,7 @@ pick_match-requires c =
 
 pub returns : goal.returns
 unfolding match_law net_of port_of code_of
-returns c =
+returns-then-net-q c =
     let port = rw add-one at c.port_of-port.ensures in
     let code = ap (λ (p : M.Port). p.address (c.args.i / 2)) port in
     c.pick_match.ensures

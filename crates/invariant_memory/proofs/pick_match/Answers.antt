@@ -4,7 +4,6 @@ use Prim.Native.Nat.{◌+◌, ◌*◌}
 use native.Mathlib.Omega.{arith}
 use mathlib.Core.Path.{◌≡◌, ◌∙◌}
 use Rattle.invariant_axioms.specs.Laws.{match_pick}
-use borrow.Author.Rules.{rules}
 use Rattle.invariant_memory.proofs.pick_match.Goals as goal
 
 pub returns : goal.returns

@@ -5,7 +5,6 @@ use native.Mathlib.Omega.{arith}
 use mathlib.Core.Path.{◌≡◌, ◌∙◌}
 use Rattle.netlist.specs.NetOf.{net_of}
 use Rattle.invariant_axioms.specs.Laws.{read_pick}
-use borrow.Author.Rules.{rules}
 use Rattle.invariant_memory.proofs.pick_read.Goals as goal
 
 pub overflow_mul-net : goal.overflow_mul-net

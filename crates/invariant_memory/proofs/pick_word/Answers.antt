@@ -4,7 +4,6 @@ use native.Mathlib.Omega.{arith}
 use mathlib.Core.Path.{◌∙◌}
 use Rattle.netlist.specs.NetOf.{code_of, net_of}
 use Rattle.invariant_axioms.specs.Laws.{word_pick}
-use borrow.Author.Rules.{rules}
 use Rattle.invariant_memory.proofs.pick_word.Goals as goal
 
 pub overflow_mul-net : goal.overflow_mul-net

@@ -6,7 +6,6 @@ use mathlib.Core.Path.{◌∙◌}
 use borrow.Author.Tests.{lt-ltb, le-ltb, le-leb, lt-leb}
 use Rattle.netlist.specs.NetOf.{net_of}
 use Rattle.invariant_axioms.specs.Laws.{read_law}
-use borrow.Author.Rules.{rules}
 use Rattle.invariant_memory.proofs.read_law.Goals as goal
 
 pub returns-then-net-q : goal.returns-then-net-q
@@ -26,5 +25,5 @@ returns-then-word_count-x c =
 
 pub returns : goal.returns
 unfolding read_law net_of
-returns c =
+returns-then-net-q c =
     c.pick_read.ensures ∙ rw (le-leb (c.args.i % 2) c.args.net.second_port (omega (arith, c.if-net-q.false)), lt-ltb (c.args.i / 2) c.args.net.n (omega (arith, c.if-net-t.false)), lt-ltb c.args.x (2 ^ c.args.net.m) (omega (arith, c.word_count.ensures.0, c.if-word_count-x.false)))

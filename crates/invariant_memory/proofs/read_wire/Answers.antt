@@ -6,7 +6,6 @@ use native.Mathlib.Omega.{arith}
 use mathlib.Core.Path.{◌≡◌, ◌∙◌}
 use Rattle.model.specs.Netlist.{read_wire}
 use Rattle.netlist.specs.NetOf.{net_of, alone}
-use borrow.Author.Rules.{rules}
 use Rattle.invariant_memory.proofs.read_wire.Goals as goal
 
 pub overflow_mul-q : goal.overflow_mul-q

@@ -6,7 +6,6 @@ use mathlib.Core.Path.{◌∙◌}
 use borrow.Author.Tests.{lt-ltb, le-ltb}
 use Rattle.netlist.specs.NetOf.{net_of}
 use Rattle.invariant_axioms.specs.Laws.{word_law}
-use borrow.Author.Rules.{rules}
 use Rattle.invariant_memory.proofs.word_law.Goals as goal
 
 pub returns-then-net-t : goal.returns-then-net-t
@@ -21,5 +20,5 @@ returns-then-word_count-x c =
 
 pub returns : goal.returns
 unfolding word_law net_of
-returns c =
+returns-then-net-t c =
     c.pick_word.ensures ∙ rw (lt-ltb c.args.t c.args.net.n (omega (arith, c.if-net-t.false)), lt-ltb c.args.x (2 ^ c.args.net.m) (omega (arith, c.word_count.ensures.0, c.if-word_count-x.false)))

@@ -1,7 +1,6 @@
 -- `invariant_memory::word_term` meets its contract.
 
 use mathlib.Core.Path.{◌∙◌}
-use borrow.Author.Rules.{rules}
 use Rattle.invariant_memory.proofs.word_term.Goals as goal
 
 pub returns : goal.returns

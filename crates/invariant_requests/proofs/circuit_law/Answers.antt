@@ -3,7 +3,6 @@
 use mathlib.Core.Path.{◌∙◌}
 use Rattle.netlist.specs.NetOf.{net_of}
 use Rattle.invariant_axioms.specs.Laws.{constant_law, fail_law}
-use borrow.Author.Rules.{rules}
 use Rattle.invariant_requests.proofs.circuit_law.Goals as goal
 
 pub returns : goal.returns

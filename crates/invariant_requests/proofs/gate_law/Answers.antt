@@ -7,7 +7,6 @@ use Rattle.model.specs.Netlist.{gate_wire}
 use Rattle.netlist.specs.NetOf.{net_of, alone}
 use Rattle.invariant_axioms.specs.Laws.{gate_law}
 use Rattle.invariant_terms.specs.StateBits.{state_count}
-use borrow.Author.Rules.{rules}
 use Rattle.invariant_requests.proofs.gate_law.Goals as goal
 
 pub bounds-gates-at : goal.bounds-gates-at
@@ -46,5 +45,5 @@ returns-then-g-net c =
 
 pub returns : goal.returns
 unfolding gate_law net_of state_count
-returns c =
+returns-then-g-net c =
     c.no_law.ensures ∙ rw (le-ltb c.args.g c.args.net.gates (omega arith))

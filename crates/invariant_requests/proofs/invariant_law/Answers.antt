@@ -7,7 +7,6 @@ use lib.IntN.{pos}
 use lib.ListN.{length, get_or}
 use Rattle.decimal.proofs.Signed.{read_back}
 use Rattle.invariant_axioms.specs.Laws.{invariant_law}
-use borrow.Author.Rules.{rules}
 use Rattle.invariant_requests.proofs.invariant_law.Goals as goal
 
 pub returns-then-at-invariant : goal.returns-then-at-invariant
@@ -19,5 +18,5 @@ returns-then-at-invariant c =
 
 pub returns : goal.returns
 unfolding invariant_law
-returns c =
+returns-then-at-invariant c =
     c.last_law.ensures ∙ rw (le-ltb c.args.h (length c.args.invariant.now) (omega arith))

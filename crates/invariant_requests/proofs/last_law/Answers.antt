@@ -2,7 +2,6 @@
 
 use mathlib.Core.Path.{◌∙◌}
 use Rattle.invariant_axioms.specs.Laws.{last_law}
-use borrow.Author.Rules.{rules}
 use Rattle.invariant_requests.proofs.last_law.Goals as goal
 
 pub returns : goal.returns

@@ -6,7 +6,6 @@ use borrow.Author.Tests.{lt-ltb, le-ltb}
 use Rattle.model.specs.Netlist.{latch_wire}
 use Rattle.netlist.specs.NetOf.{net_of, alone}
 use Rattle.invariant_axioms.specs.Laws.{latch_law}
-use borrow.Author.Rules.{rules}
 use Rattle.invariant_requests.proofs.latch_law.Goals as goal
 
 pub offset-wire-requires : goal.offset-wire-requires
@@ -29,5 +28,5 @@ returns-then-l-net c =
 
 pub returns : goal.returns
 unfolding latch_law net_of
-returns c =
+returns-then-l-net c =
     c.no_law.ensures ∙ rw (le-ltb c.args.l c.args.net.latches (omega arith))

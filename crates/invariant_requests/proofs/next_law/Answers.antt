@@ -6,7 +6,6 @@ use borrow.Author.Tests.{lt-ltb, le-ltb}
 use Rattle.netlist.specs.NetOf.{net_of}
 use Rattle.invariant_axioms.specs.Laws.{next_law}
 use Rattle.invariant_terms.specs.StateBits.{state_count}
-use borrow.Author.Rules.{rules}
 use Rattle.invariant_requests.proofs.next_law.Goals as goal
 
 pub bounds-latches-l : goal.bounds-latches-l
@@ -21,5 +20,5 @@ returns-then-l-net c =
 
 pub returns : goal.returns
 unfolding next_law net_of state_count
-returns c =
+returns-then-l-net c =
     c.no_law.ensures ∙ rw (le-ltb c.args.l c.args.net.latches (omega arith))

@@ -7,7 +7,6 @@ use Rattle.text_writer.specs.declared.Parts.{Parts}
 use Rattle.text_writer.specs.Signed.{parts_of}
 use Rattle.invariant_axioms.specs.Laws.{place_law}
 use Rattle.invariant_axioms.proofs.Parts.{ends, goes_on, sign-most}
-use borrow.Author.Rules.{rules}
 use Rattle.invariant_requests.proofs.place_law.Goals as goal
 
 pub returns-then-parts-eq0 : goal.returns-then-parts-eq0
@@ -34,7 +33,7 @@ overflow_add-after c =
 
 pub returns : goal.returns
 unfolding place_law
-returns c =
+returns-then-parts-eq0 c =
     let is : c.parts_of-parts.result ≡ parts_of c.args.z = rw (read_back c.args.z c.fits.z) at c.parts_of-parts.ensures in
     c.pick-2.ensures
     ∙ rw (

@@ -5,7 +5,6 @@ use borrow.Author.Tests.{eq-eqb, ne_eqb}
 use Prim.Native.Nat.{◌/◌, ◌%◌}
 use Rattle.invariant_axioms.specs.Laws.{requested}
 use Rattle.invariant_requests.proofs.Lists.{count-lists, circuit-lists, gate-lists, read-lists, word-lists, match-lists}
-use borrow.Author.Rules.{rules}
 use Rattle.invariant_requests.proofs.requested.Goals as goal
 
 pub returns-then-family-eq0 : goal.returns-then-family-eq0
@@ -71,7 +70,7 @@ returns-then-family-eq5 c =
 
 pub returns : goal.returns
 unfolding requested
-returns c =
+returns-then-family-eq0 c =
     c.no_law.ensures
     ∙ rw (
       ne_eqb (c.args.request / 8) 0 c.if-family-eq0.left,

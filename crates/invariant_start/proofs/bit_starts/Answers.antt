@@ -9,7 +9,6 @@ use Rattle.model.specs.Netlist.{read_bits}
 use Rattle.model.proofs.Ports.{second-most}
 use Rattle.netlist.specs.NetOf.{net_of, alone}
 use Rattle.invariant_formula.specs.AtStart.{bit_starts}
-use borrow.Author.Rules.{rules}
 use Rattle.invariant_start.proofs.bit_starts.Goals as goal
 
 pub bounds-latches-j : goal.bounds-latches-j
@@ -45,5 +44,5 @@ word_starts-requires c =
 
 pub returns : goal.returns
 unfolding net_of bit_starts
-returns c =
+returns-then-j-net c =
     c.word_starts.ensures ∙ rw (c.read_count-reads.ensures, le-ltb c.args.j c.args.net.latches (omega (arith, c.if-j-net.false)), le-ltb c.args.j (c.args.net.latches + read_bits (alone c.args.net)) (omega (arith, c.read_count-reads.ensures, c.if-j-net-2.false)))

@@ -1,16 +1,12 @@
 -- `invariant_start::holds_at_start` meets its contract. What is left of the test says what the whole says.
 
-use Prim.Native.Nat.{◌-◌, ◌≤◌}
-use mathlib.Core.Path.{◌≡◌, sym, ◌∙◌}
-use mathlib.Core.List.{[]}
+use Prim.Native.Nat.{◌-◌}
+use mathlib.Core.Path.{sym, ◌∙◌}
 use native.Mathlib.Omega.{arith}
 use lib.IntN.{pos}
-use lib.ListN.{length, get_or, drop}
-use borrow.Author.Rules.{rules}
+use lib.ListN.{get_or}
 use Rattle.decimal.proofs.Signed.{read_back}
-use Rattle.netlist.specs.NetOf.{net_of}
-use Rattle.invariant_formula.specs.AtStart.{holds_at_start}
-use Rattle.invariant_start.proofs.Progress.{left, left-start, left_at, left-past, left-failed, progress-most}
+use Rattle.invariant_start.proofs.Progress.{left-start, left_at, left-past, left-failed, progress-most}
 use Rattle.invariant_start.proofs.holds_at_start.Goals as goal
 
 pub loop-i-init : goal.loop-i-init
@@ -33,6 +29,6 @@ loop-i-preserved c =
     (omega arith, omega (arith, c.if-state-eq0.false), rw is (progress-most _ c.loop-i.state z inv.2), rw is (sym (left_at _ c.loop-i.state zs c.loop-i.i inv.1 inv.2 c.loop-i-test.true) ∙ inv.3))
 
 pub returns : goal.returns
-returns c =
+returns-then-state-eq0 c =
     let inv = c.loop-i.invariant in
     sym (left-past _ c.loop-i.state c.args.invariant.now c.loop-i.i inv.1 (omega arith)) ∙ inv.3

@@ -1,16 +1,12 @@
 -- `invariant_start::holds_at_start` meets its contract. What is left of the test says what the whole says.
 
 use Prim.Native.Nat.{◌-◌, ◌≤◌}
-use mathlib.Core.Path.{◌≡◌, sym, ◌∙◌}
+use mathlib.Core.Path.{◌≡◌}
 use mathlib.Core.List.{[]}
-use native.Mathlib.Omega.{arith}
-use lib.IntN.{pos}
-use lib.ListN.{length, get_or, drop}
-use borrow.Author.Rules.{rules}
-use Rattle.decimal.proofs.Signed.{read_back}
+use lib.ListN.{length, drop}
 use Rattle.netlist.specs.NetOf.{net_of}
 use Rattle.invariant_formula.specs.AtStart.{holds_at_start}
-use Rattle.invariant_start.proofs.Progress.{left, left-start, left_at, left-past, left-failed, progress-most}
+use Rattle.invariant_start.proofs.Progress.{left}
 use Rattle.invariant_start.proofs.holds_at_start.Given as goal
 
 abbrev pub invariant-loop-i : goal.invariant-loop-i

@@ -11,7 +11,6 @@ use Rattle.invariant_terms.specs.StateBits.{state_count}
 use Rattle.invariant_start.specs.Progress.{progress}
 use Rattle.invariant_axioms.proofs.Parts.{ends, goes_on}
 use Rattle.invariant_start.proofs.Numbers.{outside, inside}
-use borrow.Author.Rules.{rules}
 use Rattle.invariant_start.proofs.next.Goals as goal
 
 pub returns-then-state-eq2 : goal.returns-then-state-eq2
@@ -44,7 +43,7 @@ returns-then-number_starts c =
 
 pub returns : goal.returns
 unfolding progress net_of state_count
-returns c =
+returns-then-state-eq2 c =
     let is : c.parts_of-parts.result ≡ parts_of c.args.z = rw (read_back c.args.z c.ranges.z) at c.parts_of-parts.ensures in
     let value = ap (λ (p : Parts). p.value) is in
     rw (goes_on c.args.z (λ e. c.if-parts-eq0.false (value ∙ e)), inside (state_count (alone c.args.net)) c.args.z (omega (arith, value, c.requires.1, c.if-b-parts.false)), sym (rw (read_back c.args.z c.ranges.z) at c.number_starts.ensures) ∙ c.if-number_starts.false)

@@ -4,7 +4,6 @@ use mathlib.Core.Path.{◌∙◌}
 use Rattle.model.specs.Bits.{odd, bit}
 use Rattle.netlist.specs.NetOf.{net_of}
 use Rattle.invariant_start.proofs.Numbers.{word-given, word-unknown}
-use borrow.Author.Rules.{rules}
 use Rattle.invariant_start.proofs.word_starts.Goals as goal
 
 pub returns-then-net-eq0 : goal.returns-then-net-eq0
@@ -14,5 +13,5 @@ returns-then-net-eq0 c =
 
 pub returns : goal.returns
 unfolding net_of
-returns c =
+returns-then-net-eq0 c =
     word-unknown c.args.net.initial_word c.args.net.unknown_start c.args.t c.args.value c.if-net-eq0.false

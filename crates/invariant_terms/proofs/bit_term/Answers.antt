@@ -3,7 +3,6 @@
 use native.Mathlib.Omega.{arith}
 use mathlib.Core.Path.{◌∙◌}
 use Rattle.invariant_terms.specs.Terms.{state_term}
-use borrow.Author.Rules.{rules}
 use Rattle.invariant_terms.proofs.bit_term.Goals as goal
 
 pub returns-then-behind : goal.returns-then-behind
@@ -12,5 +11,5 @@ returns-then-behind c =
 
 pub returns : goal.returns
 unfolding state_term
-returns c =
+returns-then-behind c =
     (rw c.if-behind.false, omega (arith, c.requires.1))

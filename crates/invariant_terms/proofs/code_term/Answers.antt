@@ -1,7 +1,6 @@
 -- `invariant_terms::code_term` meets its contract.
 
 use Rattle.invariant_terms.specs.Terms.{code_term}
-use borrow.Author.Rules.{rules}
 use Rattle.invariant_terms.proofs.code_term.Goals as goal
 
 pub returns : goal.returns

@@ -10,7 +10,6 @@ use Rattle.model.specs.Bits.{odd}
 use Rattle.literals.proofs.Literal.{minus-fits, minus_is}
 use Rattle.invariant_terms.specs.Terms.{number_of}
 use native.Mathlib.Omega.{arith}
-use borrow.Author.Rules.{rules}
 use Rattle.invariant_terms.proofs.number_of.Goals as goal
 
 pub overflow_sub-result : goal.overflow_sub-result
@@ -25,7 +24,7 @@ returns-then-x-eq1 c =
 
 pub returns : goal.returns
 unfolding number_of odd
-returns c =
+returns-then-x-eq1 c =
     let v : ℕ = c.args.x / 2 in
     let e : v + 1 ≡ suc v = omega arith in
     rw (ne_eqb (c.args.x % 2) 1 c.if-x-eq1.false) (to_z_pos w32 (v + 1) (omega arith) ∙ ap pos e)

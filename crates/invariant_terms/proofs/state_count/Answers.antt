@@ -5,7 +5,6 @@ use Rattle.netlist.specs.NetOf.{net_of}
 use native.Mathlib.Nat.{mul-le-mul}
 use Rattle.invariant_terms.specs.StateBits.{state_count}
 use native.Mathlib.Omega.{arith}
-use borrow.Author.Rules.{rules}
 use Rattle.invariant_terms.proofs.state_count.Goals as goal
 
 pub overflow_mul-words : goal.overflow_mul-words

@@ -2,7 +2,6 @@
 
 use native.Mathlib.Omega.{arith}
 use Rattle.invariant_terms.specs.Terms.{variable, term}
-use borrow.Author.Rules.{rules}
 use Rattle.invariant_terms.proofs.term.Goals as goal
 
 pub returns : goal.returns

@@ -1,6 +1,5 @@
 -- `invariant_terms::wire_term` meets its contract.
 
-use borrow.Author.Rules.{rules}
 use Rattle.invariant_terms.proofs.wire_term.Goals as goal
 
 pub returns : goal.returns

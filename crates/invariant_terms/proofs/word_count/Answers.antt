@@ -6,7 +6,6 @@ use native.Mathlib.Omega.{arith}
 use native.Mathlib.Nat.{pow-le-pow_right, one-mul}
 use lib.Pow.{shl_exact}
 use Rattle.netlist.specs.NetOf.{net_of}
-use borrow.Author.Rules.{rules}
 use Rattle.invariant_terms.proofs.word_count.Goals as goal
 
 pub overflow_shl-result : goal.overflow_shl-result

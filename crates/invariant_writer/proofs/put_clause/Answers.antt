@@ -5,7 +5,6 @@ use mathlib.Core.Path.{sym, ◌∙◌}
 use borrow.Author.Tests.{eq-eqb, ne_eqb}
 use Rattle.invariant_laws.specs.LawForms.{clause_of}
 use Rattle.invariant_writer.proofs.Five.{small, opposite-most}
-use borrow.Author.Rules.{rules}
 use Rattle.invariant_writer.proofs.put_clause.Goals as goal
 
 pub put_terms-requires : goal.put_terms-requires
@@ -30,5 +29,5 @@ returns-then-fits c =
 
 pub returns : goal.returns
 unfolding clause_of
-returns c =
+returns-then-direction-eq0 c =
     rw (sym c.fits2.ensures ∙ c.if-fits.false) c.put_terms-2.ensures

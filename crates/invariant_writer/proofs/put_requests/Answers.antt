@@ -2,9 +2,7 @@
 
 use Prim.Native.Nat.{◌-◌}
 use native.Mathlib.Omega.{arith}
-use borrow.Author.Rules.{rules}
-use Rattle.netlist.specs.NetOf.{net_of}
-use Rattle.clause_writer.proofs.Turns.{Turns, turns-start, turns_next, turns-end}
+use Rattle.clause_writer.proofs.Turns.{turns-start, turns_next, turns-end}
 use Rattle.invariant_formula.specs.Formula.{requested_clause}
 use Rattle.invariant_writer.proofs.put_requests.Goals as goal
 

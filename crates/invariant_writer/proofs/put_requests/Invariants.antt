@@ -1,10 +1,8 @@
 -- `invariant_writer::put_requests` meets its contract. The loop has written the clauses of the requests passed.
 
 use Prim.Native.Nat.{◌-◌}
-use native.Mathlib.Omega.{arith}
-use borrow.Author.Rules.{rules}
 use Rattle.netlist.specs.NetOf.{net_of}
-use Rattle.clause_writer.proofs.Turns.{Turns, turns-start, turns_next, turns-end}
+use Rattle.clause_writer.proofs.Turns.{Turns}
 use Rattle.invariant_formula.specs.Formula.{requested_clause}
 use Rattle.invariant_writer.proofs.put_requests.Given as goal
 

@@ -3,7 +3,6 @@
 use native.Mathlib.Omega.{arith}
 use lib.ListN.{length-set}
 use Rattle.invariant_writer.proofs.Five.{wrote-five, read_number}
-use borrow.Author.Rules.{rules}
 use Rattle.invariant_writer.proofs.put_terms.Goals as goal
 
 pub bounds-out-1 : goal.bounds-out-1

@@ -1,6 +1,5 @@
 -- `marrubigai::marrubigai_literal_at` meets its contract: it is that of `literal_at`.
 
-use borrow.Author.Rules.{rules}
 use Rattle.marrubigai.proofs.marrubigai_literal_at.Goals as goal
 
 pub returns : goal.returns

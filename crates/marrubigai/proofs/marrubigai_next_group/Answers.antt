@@ -3,7 +3,6 @@
 
 use mathlib.Core.Path.{◌∙◌, sym, ap}
 use native.Mathlib.Omega.{arith}
-use borrow.Author.Rules.{rules}
 use Rattle.group_order.proofs.Successor.{order-first}
 use Rattle.call_replies.specs.Replies.{group_of, next_numbers}
 use Rattle.marrubigai.proofs.Order.{order-some, order-zero, order-many, no-group}
@@ -27,7 +26,7 @@ returns-then-ports-gt2 c =
 
 pub returns : goal.returns
 unfolding group_of
-returns c =
+returns-then-ports-eq0 c =
     let same = order-some c.args.ports c.args.depth (omega arith) (omega arith) in
     let order = rw c.group_of.ensures at c.next_group.ensures in
     let sent = c.next_numbers-2.ensures in (

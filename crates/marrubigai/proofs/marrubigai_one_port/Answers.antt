@@ -1,7 +1,6 @@
 -- `marrubigai::marrubigai_one_port` meets its contract: what `convert` answers and leaves, in numbers.
 
 use mathlib.Core.Path.{◌∙◌}
-use borrow.Author.Rules.{rules}
 use Rattle.marrubigai.proofs.marrubigai_one_port.Goals as goal
 
 pub returns : goal.returns

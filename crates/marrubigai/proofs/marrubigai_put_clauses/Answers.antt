@@ -1,7 +1,6 @@
 -- `marrubigai::marrubigai_put_clauses` meets its contract: what `put_clauses` answers and leaves, in numbers.
 
 use mathlib.Core.Path.{◌∙◌}
-use borrow.Author.Rules.{rules}
 use Rattle.marrubigai.proofs.marrubigai_put_clauses.Goals as goal
 
 pub returns : goal.returns

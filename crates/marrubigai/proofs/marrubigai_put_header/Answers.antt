@@ -1,7 +1,6 @@
 -- `marrubigai::marrubigai_put_header` meets its contract: what `put_header` answers and leaves, in numbers.
 
 use mathlib.Core.Path.{◌∙◌}
-use borrow.Author.Rules.{rules}
 use Rattle.marrubigai.proofs.marrubigai_put_header.Goals as goal
 
 pub returns : goal.returns

@@ -3,7 +3,6 @@
 use mathlib.Core.Path.{◌∙◌, ap}
 use lib.IntN.{ℤ}
 use lib.ListN.{length}
-use borrow.Author.Rules.{rules}
 use Rattle.decimal.specs.Digits.{signed_digits}
 use Rattle.decimal.proofs.Signed.{read_back}
 use Rattle.dimacs.specs.PrintCalls.{print_sent, fill_leaves}

@@ -1,7 +1,6 @@
 -- `marrubigai::marrubigai_put_refusal` meets its contract: what `put_refusal` answers and leaves, in numbers.
 
 use mathlib.Core.Path.{◌∙◌}
-use borrow.Author.Rules.{rules}
 use Rattle.marrubigai.proofs.marrubigai_put_refusal.Goals as goal
 
 pub returns : goal.returns

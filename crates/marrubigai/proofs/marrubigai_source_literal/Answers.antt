@@ -1,6 +1,5 @@
 -- `marrubigai::marrubigai_source_literal` meets its contract.
 
-use borrow.Author.Rules.{rules}
 use Rattle.marrubigai.proofs.marrubigai_source_literal.Goals as goal
 
 pub returns : goal.returns

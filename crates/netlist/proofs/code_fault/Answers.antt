@@ -1,7 +1,6 @@
 -- `netlist::code_fault` meets its contract: each arm knows its line, whose number is below its size.
 
 use mathlib.Core.Path.{◌≡◌, subst}
-use borrow.Author.Rules.{rules}
 use native.Mathlib.Omega.{arith}
 use Rattle.model.specs.Netlist.{gate_wire}
 use Rattle.netlist.specs.NetOf.{code_of, net_of, alone}

@@ -2,9 +2,8 @@
 
 use Prim.Native.Nat.{◌+◌}
 use mathlib.Core.Path.{sym}
-use borrow.Author.Rules.{rules}
 use Rattle.netlist.proofs.Faults.{outside_above}
 use Rattle.netlist.proofs.is_kind_outside.Goals as goal
 
 pub returns : goal.returns
-returns c = sym (outside_above 1 (c.args.unknown + c.args.second-port))
+returns c = sym (outside_above 1 (c.args.unknown + c.args.second_port))

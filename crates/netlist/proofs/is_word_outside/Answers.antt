@@ -1,7 +1,6 @@
 -- `netlist::is_word_outside` meets its contract: nothing is left of a word once its n bits are shifted out.
 
 use mathlib.Core.Path.{sym}
-use borrow.Author.Rules.{rules}
 use native.Mathlib.Omega.{arith}
 use Rattle.netlist.proofs.Faults.{word-outside, word-inside}
 use Rattle.netlist.proofs.is_word_outside.Goals as goal

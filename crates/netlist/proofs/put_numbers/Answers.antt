@@ -1,7 +1,6 @@
 -- `netlist::put_numbers` meets its contract: two stores.
 
 use mathlib.Core.Path.{refl}
-use borrow.Author.Rules.{rules}
 use Rattle.netlist.specs.NetOf.{put_numbers}
 use Rattle.netlist.proofs.put_numbers.Goals as goal
 

@@ -1,6 +1,5 @@
 -- `netlist::wire_count` meets its contract: the sizes are within their limits, so the sum fits.
 
-use borrow.Author.Rules.{rules}
 use native.Mathlib.Omega.{arith}
 use Rattle.netlist.specs.NetOf.{net_of}
 use Rattle.netlist.proofs.wire_count.Goals as goal

@@ -2,11 +2,8 @@
 
 use Prim.Native.Nat.{◌-◌, ◌≤◌}
 use mathlib.Core.Path.{◌≡◌}
-use mathlib.Core.Bool.{false}
-use native.Mathlib.Omega.{arith}
 use Rattle.netlist.specs.NetOf.{code_of}
 use Rattle.netlist_scan.specs.AnyLine.{any_above}
-use Rattle.model.proofs.Search.{any_none, any_next}
 use Rattle.netlist_scan.proofs.any_data.Given as goal
 
 abbrev pub invariant-loop-t : goal.invariant-loop-t

@@ -3,10 +3,7 @@
 
 use Prim.Native.Nat.{◌+◌, ◌-◌, ◌≤◌}
 use mathlib.Core.Path.{◌≡◌}
-use mathlib.Core.Bool.{false}
-use native.Mathlib.Omega.{arith}
 use Rattle.netlist_scan.specs.AnyLine.{any_gate}
-use Rattle.model.proofs.Search.{any_none, any_next}
 use Rattle.netlist_scan.proofs.any_gate.Given as goal
 
 abbrev pub invariant-loop-g : goal.invariant-loop-g

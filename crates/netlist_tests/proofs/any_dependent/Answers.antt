@@ -1,13 +1,11 @@
 -- `netlist_tests::any_dependent` meets its contract. The loop's invariant: what was found is what the first t address codes have.
 
-use Prim.Native.Nat.{◌-◌, ◌/◌, ◌≤◌}
+use Prim.Native.Nat.{◌-◌}
 use mathlib.Core.Path.{◌≡◌}
 use mathlib.Core.Bool.{false}
 use native.Mathlib.Omega.{arith}
-use Rattle.model.specs.Search.{any_below}
 use Rattle.model.proofs.Search.{any_none, any_next}
 use Rattle.netlist.specs.NetOf.{code_of}
-use Rattle.netlist.specs.WireTable.{entry}
 use Rattle.netlist_tests.specs.OnePort.{any_dependent}
 use Rattle.netlist_tests.proofs.any_dependent.Goals as goal
 

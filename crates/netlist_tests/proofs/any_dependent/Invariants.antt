@@ -2,13 +2,9 @@
 
 use Prim.Native.Nat.{◌-◌, ◌/◌, ◌≤◌}
 use mathlib.Core.Path.{◌≡◌}
-use mathlib.Core.Bool.{false}
-use native.Mathlib.Omega.{arith}
 use Rattle.model.specs.Search.{any_below}
-use Rattle.model.proofs.Search.{any_none, any_next}
 use Rattle.netlist.specs.NetOf.{code_of}
 use Rattle.netlist.specs.WireTable.{entry}
-use Rattle.netlist_tests.specs.OnePort.{any_dependent}
 use Rattle.netlist_tests.proofs.any_dependent.Given as goal
 
 abbrev pub invariant-loop-t : goal.invariant-loop-t

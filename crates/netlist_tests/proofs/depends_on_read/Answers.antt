@@ -1,13 +1,12 @@
 -- `netlist_tests::depends_on_read` meets its contract. The loop's invariant: the table has the sweep over the first g gates.
 
-use Prim.Native.Nat.{◌+◌, ◌-◌, ◌/◌, ◌≤◌, ◌<◌}
+use Prim.Native.Nat.{◌+◌, ◌-◌, ◌/◌, ◌<◌}
 use mathlib.Core.Path.{◌≡◌, refl, ap}
 use mathlib.Core.List.{[]}
 use native.Mathlib.Omega.{arith}
 use Rattle.model.specs.Netlist.{gate_wire}
 use Rattle.model.specs.Circuit.{sweep, is_read, either_wire, depends_on_read}
 use Rattle.netlist.specs.NetOf.{net_of}
-use Rattle.netlist.specs.WireTable.{HasAll}
 use Rattle.netlist.proofs.NetOf.{sizes-lists}
 use Rattle.netlist_tests.proofs.Dependence.{table-set, table_same, sweep-next}
 use Rattle.netlist_tests.proofs.depends_on_read.Goals as goal

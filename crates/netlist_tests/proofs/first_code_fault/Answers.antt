@@ -1,6 +1,6 @@
 -- `netlist_tests::first_code_fault` meets its contract. The loop's invariant: the lines up to the place have no code outside its limit.
 
-use Prim.Native.Nat.{◌+◌, ◌-◌, ◌≤◌}
+use Prim.Native.Nat.{◌+◌, ◌-◌}
 use mathlib.Core.Path.{◌≡◌, refl, sym, ◌∙◌, ap}
 use native.Mathlib.Omega.{arith}
 use Rattle.refusals.specs.Tests.{in_order}
@@ -10,7 +10,7 @@ use Rattle.netlist.specs.Places.{line_at}
 use Rattle.netlist.specs.Faults.{code_fault}
 use Rattle.netlist.proofs.NetOf.{line_at-lists}
 use Rattle.netlist.proofs.Places.{has-line_at}
-use Rattle.netlist_tests.proofs.Record.{PassedTo, passed-next, refused-next, passed-all}
+use Rattle.netlist_tests.proofs.Record.{passed-next, refused-next, passed-all}
 use Rattle.netlist_tests.proofs.first_code_fault.Goals as goal
 use Rattle.netlist_tests.proofs.first_code_fault.Goals.{After-code_fault}
 
@@ -65,7 +65,7 @@ loop-place-preserved c =
 
 pub returns : goal.returns
 unfolding net_of
-returns c =
+returns-then-code_fault c =
     sym (passed-all (net_of c.args.net c.args.latches.now c.args.gates.now) CodeOutside code_fault
     c.loop-place.place
     (omega (arith, c.control_line-last.ensures))

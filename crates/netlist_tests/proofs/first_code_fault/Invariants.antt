@@ -1,16 +1,10 @@
 -- `netlist_tests::first_code_fault` meets its contract. The loop's invariant: the lines up to the place have no code outside its limit.
 
-use Prim.Native.Nat.{◌+◌, ◌-◌, ◌≤◌}
-use mathlib.Core.Path.{◌≡◌, refl, sym, ◌∙◌, ap}
-use native.Mathlib.Omega.{arith}
-use Rattle.refusals.specs.Tests.{in_order}
+use Prim.Native.Nat.{◌-◌, ◌≤◌}
 use Rattle.refusals.specs.declared.Refusal.TheVariants.{CodeOutside}
-use Rattle.netlist.specs.NetOf.{net_of, alone}
-use Rattle.netlist.specs.Places.{line_at}
+use Rattle.netlist.specs.NetOf.{net_of}
 use Rattle.netlist.specs.Faults.{code_fault}
-use Rattle.netlist.proofs.NetOf.{line_at-lists}
-use Rattle.netlist.proofs.Places.{has-line_at}
-use Rattle.netlist_tests.proofs.Record.{PassedTo, passed-next, refused-next, passed-all}
+use Rattle.netlist_tests.proofs.Record.{PassedTo}
 use Rattle.netlist_tests.proofs.first_code_fault.Given as goal
 
 abbrev pub invariant-loop-place : goal.invariant-loop-place

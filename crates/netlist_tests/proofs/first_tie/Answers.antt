@@ -1,6 +1,6 @@
 -- `netlist_tests::first_tie` meets its contract. The loop's invariant: none of the first t codes is tied.
 
-use Prim.Native.Nat.{ℕ, ◌-◌, ◌≤◌, ◌<◌}
+use Prim.Native.Nat.{◌-◌}
 use mathlib.Core.Path.{◌≡◌, sym, ◌∙◌}
 use mathlib.Core.Bool.{false}
 use native.Mathlib.Nat.{not-suc-le-zero}
@@ -45,7 +45,7 @@ loop-t-preserved c =
     )
 
 pub returns : goal.returns
-returns c =
+returns-then-is_tied c =
     let all : c.loop-t.t ≡ c.args.m = omega arith in
     first-unique
     (record { within = omega arith; none_before = rw all at c.loop-t.invariant.1; holds-there = λ l. absurd (omega arith) })

@@ -1,13 +1,8 @@
 -- `netlist_tests::first_tie` meets its contract. The loop's invariant: none of the first t codes is tied.
 
 use Prim.Native.Nat.{ℕ, ◌-◌, ◌≤◌, ◌<◌}
-use mathlib.Core.Path.{◌≡◌, sym, ◌∙◌}
+use mathlib.Core.Path.{◌≡◌}
 use mathlib.Core.Bool.{false}
-use native.Mathlib.Nat.{not-suc-le-zero}
-use native.Mathlib.Numerals.{add-one}
-use native.Mathlib.Omega.{arith}
-use Rattle.model.proofs.Below.{all-below-suc}
-use Rattle.model.proofs.Search.{first_where-is, first-unique}
 use Rattle.netlist.specs.NetOf.{code_of}
 use Rattle.netlist.specs.Faults.{is_tied}
 use Rattle.netlist_tests.proofs.first_tie.Given as goal

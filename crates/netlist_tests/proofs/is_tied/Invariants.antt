@@ -2,12 +2,8 @@
 
 use Prim.Native.Nat.{◌-◌, ◌/◌, ◌≤◌}
 use mathlib.Core.Path.{◌≡◌}
-use mathlib.Core.Bool.{false}
-use native.Mathlib.Omega.{arith}
 use Rattle.model.specs.Search.{seen}
-use Rattle.model.proofs.Search.{any_none, any_next}
 use Rattle.netlist.specs.NetOf.{code_of}
-use Rattle.netlist.specs.Faults.{is_tied}
 use Rattle.netlist_tests.proofs.is_tied.Given as goal
 
 abbrev pub invariant-loop-s : goal.invariant-loop-s

@@ -1,11 +1,10 @@
 -- `netlist_tests::read_bits` meets its contract. The loop's invariant: the table has the wires from the first read bit up to w.
 
-use Prim.Native.Nat.{◌-◌, ◌≤◌}
+use Prim.Native.Nat.{◌-◌}
 use mathlib.Core.Bool.{true}
 use native.Mathlib.Omega.{arith}
 use Rattle.netlist.specs.NetOf.{net_of, alone}
-use Rattle.netlist.specs.WireTable.{HasAll}
-use Rattle.netlist_tests.proofs.Dependence.{table_none, table-set, table_same, between, between_none, between_next, between-is_read}
+use Rattle.netlist_tests.proofs.Dependence.{table_none, table-set, table_same, between_none, between_next, between-is_read}
 use Rattle.netlist_tests.proofs.read_bits.Goals as goal
 
 pub first_gate_wire-requires : goal.first_gate_wire-requires

@@ -1,7 +1,7 @@
 -- `netlist_tests::test_loops` meets its contract. Where the pass over the lists finds nothing, no line makes a memory loop. The loop's
 -- invariant: the lines up to the place make none. It starts before the address codes, and no line before them does.
 
-use Prim.Native.Nat.{◌+◌, ◌-◌, ◌≤◌}
+use Prim.Native.Nat.{◌+◌, ◌-◌}
 use mathlib.Core.Path.{◌≡◌, sym, ◌∙◌, ap}
 use mathlib.Core.List.{[]}
 use native.Mathlib.Omega.{arith}
@@ -14,7 +14,7 @@ use Rattle.netlist.specs.WireTable.{entry}
 use Rattle.netlist.proofs.NetOf.{sizes-lists, limits-alone, line_at-lists, loop_fault_by-lists}
 use Rattle.netlist.proofs.Places.{has-line_at}
 use Rattle.netlist_tests.proofs.Lists.{any-loop-lists}
-use Rattle.netlist_tests.proofs.Record.{PassedTo, passed-next, refused-next, passed-all}
+use Rattle.netlist_tests.proofs.Record.{passed-next, refused-next, passed-all}
 use Rattle.netlist_tests.proofs.Dependence.{loop_fault-table, loops-none, loops-before}
 use Rattle.netlist_tests.proofs.test_loops.Goals as goal
 use Rattle.netlist_tests.proofs.test_loops.Goals.{After-loop_fault}
@@ -98,7 +98,7 @@ loop-place-preserved c =
 
 pub returns : goal.returns
 unfolding net_of
-returns c =
+returns-then-not-any_loop c =
     sym (passed-all (net_of c.args.net [] c.args.gates.now) MemoryLoop loop_fault c.loop-place.place
     (omega (arith, c.control_line-last.ensures))
     c.loop-place.invariant.1)

@@ -2,7 +2,6 @@
 
 use mathlib.Core.Path.{◌≡◌, sym, ◌∙◌}
 use mathlib.Core.List.{[]}
-use borrow.Author.Rules.{rules}
 use Rattle.refusals.specs.Tests.{◌then◌}
 use Rattle.netlist.specs.NetOf.{net_of}
 use Rattle.netlist.proofs.NetOf.{sizes-lists}
@@ -28,4 +27,4 @@ returns-in-Refused c =
 
 pub returns : goal.returns
 unfolding ◌then◌
-returns c = rw (tested (goal.at.returns c).After-test_ties-ties ∙ c.in_default.is) c.test_loops.ensures
+returns-in-Refused c = rw (tested (goal.at.returns c).After-test_ties-ties ∙ c.in_default.is) c.test_loops.ensures

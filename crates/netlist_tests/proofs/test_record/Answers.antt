@@ -2,7 +2,6 @@
 
 use mathlib.Core.Path.{◌≡◌, sym, ◌∙◌}
 use mathlib.Core.List.{[]}
-use borrow.Author.Rules.{rules}
 use Rattle.refusals.specs.Tests.{◌then◌}
 use Rattle.refusals.specs.declared.Refusal.TheVariants.{Size, CodeOutside}
 use Rattle.model.specs.Acceptance.{SizesFit}
@@ -70,6 +69,6 @@ test_ports-requires c =
 
 pub returns : goal.returns
 unfolding net_of record_verdict ◌then◌
-returns c =
+returns-in-Refused c =
     rw (sizes (goal.at.returns c).After-test_sizes-sizes ∙ c.in_default.is, c.if-latch_count-net.false, sym c.test_codes-codes.ensures ∙ c.in_default-codes.is)
     (c.test_ports.ensures ∙ test-ports-latches c.args.net c.args.latches.now c.args.gates.now)

@@ -71,7 +71,7 @@ returns-then-net-gt0 c =
 
 pub returns : goal.returns
 unfolding net_of ◌then◌
-returns c =
+returns-in-Refused c =
     rw (
       ties-by-ports (alone c.args.net),
       tested (goal.at.returns c).After-test_address-ties,

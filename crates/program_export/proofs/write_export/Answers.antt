@@ -2,7 +2,6 @@
 
 use mathlib.Core.Path.{sym, ◌∙◌}
 use native.Mathlib.Omega.{arith}
-use borrow.Author.Rules.{rules}
 use Rattle.aiger_export.proofs.ExportCall.{accepted, single-port}
 use Rattle.netlist.specs.NetOf.{net_of}
 use Rattle.program_input.specs.Input.{text_or_refusal}
@@ -23,7 +22,7 @@ put_file-requires c =
 
 pub returns : goal.returns
 unfolding text_or_refusal
-returns c =
+returns-in-Refused c =
     let v = sym c.test_export-tested.ensures ∙ c.in_default.is in
     let w = c.put_file.ensures in
     (rw v w.0, w.1)

@@ -2,7 +2,6 @@
 
 use mathlib.Core.Path.{sym, ◌∙◌}
 use native.Mathlib.Omega.{arith}
-use borrow.Author.Rules.{rules}
 use Rattle.sheet_steps.proofs.Records.{verdict-is, holds}
 use Rattle.aiger_export.proofs.Exported.{exported}
 use Rattle.program_export.proofs.Printed.{output-refused, output-tested, only-due}
@@ -15,7 +14,7 @@ returns-in-Refused c =
     (rw (output-refused c.args.file.now v) w.0, (omega (arith, w.1), (exported, only-due)))
 
 pub returns : goal.returns
-returns c =
+returns-in-Refused c =
     let read = c.read_codes-sheet.ensures in
     let v = sym (verdict-is read) ∙ c.in_default.is in
     let w = rw (holds read v).net-is at c.write_export.ensures in

@@ -3,7 +3,6 @@
 use mathlib.Core.Path.{◌≡◌, sym, ◌∙◌, subst}
 use mathlib.Core.List.{[]}
 use native.Mathlib.Omega.{arith}
-use borrow.Author.Rules.{rules}
 use Rattle.model.specs.Acceptance.{SizesFit, WithinLimits}
 use Rattle.refusals.specs.declared.Verdict.TheVariants.{Passed}
 use Rattle.netlist.specs.NetOf.{net_of, alone}
@@ -46,5 +45,5 @@ put_sheet-requires c =
     (fit, omega (arith, lines-most _ fit, c.requires))
 
 pub returns : goal.returns
-returns c =
+returns-in-Refused c =
     let w = rw (holds c.import_text-sheet.ensures (passed (goal.at.returns c).After-put_sheet-arg-1)).net-is at c.put_sheet.ensures in record { text = rw (printed-passed c.args.more c.args.text.now c.args.m c.args.n c.args.word c.args.unknown c.args.second (passed (goal.at.returns c).After-put_sheet-arg-1)) w; most = omega (arith, w.counted, length-sheet_text _ (limits (goal.at.returns c).After-put_sheet-arg-1), lines-most _ (limits (goal.at.returns c).After-put_sheet-arg-1).sizes) }

@@ -2,7 +2,6 @@
 
 use mathlib.Core.Path.{sym}
 use native.Mathlib.Omega.{arith}
-use borrow.Author.Rules.{rules}
 use lib.Seq.{length-take-le}
 use Rattle.program_import.proofs.Room.{room-suffices, no-code-outside}
 use Rattle.program_import.proofs.Prefix.{prefix-suffices}
@@ -19,6 +18,6 @@ slice_bounds-write_import-end c =
     sym (length-take-le 4194304 c.args.read.now (omega (arith, c.if-read-le4194304.false)))
 
 pub returns : goal.returns
-returns c =
+returns-then-read-le4194304 c =
     let w = c.write_import-2.ensures in
     (rw (output-cut c.args.read.now c.args.m c.args.n c.args.word c.args.unknown c.args.second c.if-read-le4194304.false) w.0, (w.1, (room-suffices, (no-code-outside, prefix-suffices))))

@@ -2,7 +2,6 @@
 
 use mathlib.Core.Path.{sym, ◌∙◌}
 use native.Mathlib.Omega.{arith}
-use borrow.Author.Rules.{rules}
 use Rattle.model.proofs.Wrote.{wrote_nothing}
 use Rattle.dimacs.proofs.Text.{length-refusal_text}
 use Rattle.program_import.proofs.write_refused.Goals as goal
@@ -15,7 +14,7 @@ write_refusal-requires c =
     omega (arith, c.requires, length-refusal_text c.args.number c.args.place c.ranges.number.fits c.ranges.place.fits)
 
 pub returns : goal.returns
-returns c =
+returns-then-is_cut c =
     let w = c.write_refusal.ensures in
     rw (sym c.is_cut.ensures ∙ c.if-is_cut.false)
     (record { text = w; most = omega (arith, w.counted, length-refusal_text c.args.number c.args.place c.ranges.number.fits c.ranges.place.fits) })

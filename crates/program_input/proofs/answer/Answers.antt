@@ -1,6 +1,5 @@
 -- `program_input::answer` meets its contract: it is the definition.
 
-use borrow.Author.Rules.{rules}
 use Rattle.program_input.proofs.answer.Goals as goal
 
 pub returns : goal.returns

@@ -2,7 +2,6 @@
 
 use mathlib.Core.Path.{◌≡◌, sym, ◌∙◌}
 use native.Mathlib.Omega.{arith}
-use borrow.Author.Rules.{rules}
 use Rattle.refusals.specs.declared.Verdict.TheVariants.{Passed}
 use Rattle.refusals.proofs.Table.{reply-tells}
 use Rattle.sheet_lines.specs.Depth.{depth_verdict}
@@ -32,14 +31,14 @@ returns-in-Refused c =
     (is, (input-taken s _ _ _ is (rw decided tt), (only-refusals, λ none. input-encoded (input-taken s _ _ _ is (rw decided tt) none))))
 
 pub slice_bounds-read_sheet-count : goal.slice_bounds-read_sheet-count
-slice_bounds-read_sheet-count c = omega (arith, passed-long _ (depth-passed (goal.at.slice_bounds-read_sheet-count c).In_default))
+slice_bounds-read_sheet-count c = omega (arith, passed-long _ (depth-passed c))
 
 pub slice_bounds-read_sheet-start : goal.slice_bounds-read_sheet-start
-slice_bounds-read_sheet-start c = omega (arith, passed-long _ (depth-passed (goal.at.slice_bounds-read_sheet-start c).In_default))
+slice_bounds-read_sheet-start c = omega (arith, passed-long _ (depth-passed c))
 
 pub returns : goal.returns
 unfolding input_answer
-returns c =
+returns-in-Refused c =
     let s = c.args.input.now in
     let decided = sheet-decides s (depth-passed (goal.at.returns c).In_default) in
     let depth = c.read_depth-line.ensures.depth in

@@ -1,7 +1,6 @@
 -- `program_input::read_sheet` meets its contract: it passes on what is read.
 
 use mathlib.Core.Path.{◌∙◌, ap}
-use borrow.Author.Rules.{rules}
 use Rattle.sheet_steps.proofs.Records.{verdict-is, record_is}
 use Rattle.program_input.specs.declared.Input.{Input}
 use Rattle.program_input.proofs.read_sheet.Goals as goal

@@ -1,7 +1,6 @@
 -- `program_output::print_counts` meets its contract.
 
 use native.Mathlib.Omega.{arith}
-use borrow.Author.Rules.{rules}
 use Rattle.dimacs.proofs.Text.{header_text-most}
 use Rattle.program_output.proofs.print_counts.Goals as goal
 

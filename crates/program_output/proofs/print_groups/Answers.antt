@@ -4,9 +4,8 @@
 use Prim.Native.Nat.{ℕ, ◌+◌, ◌-◌, ◌≤◌, ◌<◌}
 use mathlib.Core.Path.{◌≡◌, refl, ◌∙◌, ap}
 use mathlib.Core.List.{List, [], ◌∷◌, ◌++◌}
-use mathlib.Core.Logic.{◌⊎◌, inl, inr}
+use mathlib.Core.Logic.{inl, inr}
 use native.Mathlib.Omega.{arith}
-use borrow.Author.Rules.{rules}
 use borrow.Rule.Slice.PartMut.{mid_len, same_len_mid}
 use lib.ListN.{length}
 use Rattle.model.specs.Netlist.{ports}
@@ -55,10 +54,10 @@ room c =
     omega (arith, c.loop-bytes-test.true, c.loop-bytes.invariant.1, c.requires.5)
 
 pub slice_bounds-print_group-count : goal.slice_bounds-print_group-count
-slice_bounds-print_group-count c = omega (arith, room (goal.at.slice_bounds-print_group-count c).In-Then)
+slice_bounds-print_group-count c = omega (arith, room c)
 
 pub slice_bounds-print_group-start : goal.slice_bounds-print_group-start
-slice_bounds-print_group-start c = omega (arith, room (goal.at.slice_bounds-print_group-start c).In-Then)
+slice_bounds-print_group-start c = omega (arith, room c)
 
 pub print_group-bytes-requires : goal.print_group-bytes-requires
 print_group-bytes-requires c =
@@ -92,7 +91,7 @@ followed c =
 pub loop-bytes-smaller : goal.loop-bytes-smaller
 unfolding net_of
 loop-bytes-smaller c =
-    rw c.in-Then.is (omega (arith, (followed (goal.at.loop-bytes-smaller c).After-next_group-next).1))
+    rw c.in-Then.is (omega (arith, (followed c).1))
 
 pub loop-bytes-preserved : goal.loop-bytes-preserved
 unfolding net_of
@@ -103,10 +102,10 @@ loop-bytes-preserved c =
       c.print_group-bytes.auto.1.0 ∙ c.loop-bytes.invariant.2,
       λ before from o h.
           one_more before from o (rw c.in-Then.is c.loop-bytes (c.loop-bytes.invariant.3 before from o h)) c.print_group-bytes.new.text c.print_group-bytes.result
-          c.next_group-next.result c.print_group-bytes.ensures.wrote.0 (followed (goal.at.loop-bytes-preserved c).After-next_group-next).0,
+          c.next_group-next.result c.print_group-bytes.ensures.wrote.0 (followed c).0,
       inr (omega (
         arith,
-        (followed (goal.at.loop-bytes-preserved c).After-next_group-next).1,
+        (followed c).1,
         rw c.in-Then.is c.loop-bytes (not_more (ports (alone c.args.net)) c.args.depth c.loop-bytes.bytes c.loop-bytes.next (Then c.args.group) c.loop-bytes.invariant.4),
       )),
     )

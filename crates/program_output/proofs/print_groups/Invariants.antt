@@ -2,22 +2,17 @@
 -- the groups from it on, `next` comes after them, and nothing is printed yet or fewer groups remain.
 
 use Prim.Native.Nat.{ℕ, ◌+◌, ◌-◌, ◌≤◌, ◌<◌}
-use mathlib.Core.Path.{◌≡◌, refl, ◌∙◌, ap}
-use mathlib.Core.List.{List, [], ◌∷◌, ◌++◌}
-use mathlib.Core.Logic.{◌⊎◌, inl, inr}
-use native.Mathlib.Omega.{arith}
-use borrow.Author.Rules.{rules}
-use borrow.Rule.Slice.PartMut.{mid_len, same_len_mid}
+use mathlib.Core.Path.{◌≡◌}
+use mathlib.Core.List.{List, ◌++◌}
+use mathlib.Core.Logic.{◌⊎◌}
 use lib.ListN.{length}
 use Rattle.model.specs.Netlist.{ports}
 use Rattle.model.specs.Groups.{group_order}
 use Rattle.model.specs.declared.Group.{Group}
-use Rattle.netlist.specs.NetOf.{net_of, alone}
-use Rattle.netlist.proofs.NetOf.{sizes-lists}
-use Rattle.group_order.specs.Next.{first_group, remaining_after, remaining_from}
+use Rattle.netlist.specs.NetOf.{net_of}
+use Rattle.group_order.specs.Next.{first_group, remaining_from}
 use Rattle.group_order.specs.declared.Next.{Next}
-use Rattle.group_order.specs.declared.Next.TheVariants.{Then}
-use Rattle.program_output.proofs.Pieces.{SoFar, nothing_yet, order_has-due, one_more, piece-continues}
+use Rattle.program_output.proofs.Pieces.{SoFar}
 use Rattle.program_output.proofs.print_groups.Given as goal
 
 -- nothing is printed yet, or fewer groups remain

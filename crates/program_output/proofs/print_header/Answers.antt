@@ -4,7 +4,6 @@ use Prim.Native.Nat.{◌+◌}
 use mathlib.Core.Path.{◌∙◌}
 use mathlib.Core.List.{[]}
 use native.Mathlib.Omega.{arith}
-use borrow.Author.Rules.{rules}
 use Rattle.netlist.proofs.NetOf.{sizes-lists, base-lists}
 use Rattle.program_output.specs.Printed.{formula_header}
 use Rattle.program_output.proofs.print_header.Goals as goal

@@ -2,7 +2,6 @@
 
 use mathlib.Core.Path.{◌∙◌}
 use Rattle.replay_answer.proofs.ReplayAnswer.{replay-is, memory-is, trace-is}
-use borrow.Author.Rules.{rules}
 use Rattle.program_replay.proofs.replay_read.Goals as goal
 
 pub returns : goal.returns

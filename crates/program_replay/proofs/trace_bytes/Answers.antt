@@ -2,7 +2,6 @@
 
 use mathlib.Core.Path.{sym, ◌∙◌}
 use native.Mathlib.Omega.{arith}
-use borrow.Author.Rules.{rules}
 use Rattle.model.specs.Netlist.{last_wire}
 use Rattle.netlist.specs.NetOf.{alone}
 use Rattle.replay_call.proofs.ReplayCall.{trace-small}
@@ -14,6 +13,6 @@ returns-then-is_broken c =
     record { bytes = rw broken c.trace_length.ensures; most = omega (arith, c.trace_length.ensures, trace-small c.args.depth (last_wire (alone c.args.net)) c.requires.1 c.requires.0.wires-fit) }
 
 pub returns : goal.returns
-returns c =
+returns-then-is_broken c =
     let broken = sym c.is_broken.ensures ∙ c.if-is_broken.false in
     record { bytes = rw broken; most = omega arith }

@@ -1,6 +1,5 @@
 -- `program_replay::write_both` meets its contract: one text behind the other.
 
-use borrow.Author.Rules.{rules}
 use Rattle.model.proofs.Wrote.{wrote_then}
 use Rattle.program_replay.proofs.write_both.Goals as goal
 

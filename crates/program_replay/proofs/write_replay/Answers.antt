@@ -30,8 +30,8 @@ pub write_both-requires : goal.write_both-requires
 write_both-requires c =
     omega (
       arith,
-      slice-aggregate-write-both (goal.at.write_both-requires c).After-line-3-1,
-      slice-aggregate-write-both-2 (goal.at.write_both-requires c).After-trace-3-1,
+      slice_bounds-write_both-end (goal.at.write_both-requires c).After-line-3-1,
+      slice_bounds-write_both-end-2 c,
       c.write_answer-first.ensures.most,
       c.trace_bytes-bytes.ensures.most,
       c.requires.2,
@@ -55,8 +55,8 @@ returns c =
           arith,
           c.write_both.ensures.counted,
           length-append (take c.write_answer-first.result c.write_answer-first.new.out) (take c.trace_bytes-bytes.result lines),
-          slice-aggregate-write-both (goal.at.returns c).After-line-3-1,
-          slice-aggregate-write-both-2 (goal.at.returns c).After-trace-3-1,
+          slice_bounds-write_both-end (goal.at.returns c).After-line-3-1,
+          slice_bounds-write_both-end-2 (goal.at.returns c).After-trace-3-1,
           c.write_answer-first.ensures.most,
           c.trace_bytes-bytes.ensures.most,
         ),

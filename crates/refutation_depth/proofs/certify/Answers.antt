@@ -5,7 +5,6 @@ use native.Mathlib.Omega.{arith}
 use lib.ListN.{length}
 use Rattle.refutation_depth.specs.declared.CertificateReply.{CertificateReply}
 use Rattle.refutation_depth.proofs.Certificate.{refused-sent, refused-kept, taken-sent, taken-store, taken-scratch, certified-input}
-use borrow.Author.Rules.{rules}
 use Rattle.refutation_depth.proofs.certify.Goals as goal
 
 pub returns-then-taken-ne0 : goal.returns-then-taken-ne0
@@ -23,7 +22,7 @@ certify_net-requires c = let t = c.read_input-taken.ensures.taken.0 c.if-taken-n
     (rw t.net-is t.accepted, omega (arith, t.depth-most))
 
 pub returns : goal.returns
-returns c = let t = c.read_input-taken.ensures.taken.0 c.if-taken-ne0.false in
+returns-then-taken-ne0 c = let t = c.read_input-taken.ensures.taken.0 c.if-taken-ne0.false in
     let told = rw (t.net-is, t.depth_is) at c.certify_net.ensures in
     let is = told.0 ∙ sym (taken-sent c.args.input.now t.passed c.args.lemmas.now c.args.hints.now (length c.args.store.now) (length c.args.marks.now)) in (
       is,

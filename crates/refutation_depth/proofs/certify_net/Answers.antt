@@ -4,7 +4,6 @@ use mathlib.Core.Path.{refl, sym, ◌∙◌}
 use Rattle.refusals.specs.Slices.{contents_after}
 use Rattle.refutation_depth.specs.Certificate.{certificate_reply, scratch_after}
 use Rattle.refutation_depth.proofs.Certificate.{both-shown}
-use borrow.Author.Rules.{rules}
 use Rattle.refutation_depth.proofs.certify_net.Goals as goal
 
 pub returns-in-Refused : goal.returns-in-Refused
@@ -18,6 +17,6 @@ check_depth-requires c = let shown = both-shown _ _ _ _ _ (sym c.test_room.ensur
 
 pub returns : goal.returns
 unfolding contents_after scratch_after
-returns c = let v = sym c.test_room.ensures ∙ c.in_default.is in
+returns-in-Refused c = let v = sym c.test_room.ensures ∙ c.in_default.is in
     let checked = c.check_depth.ensures in
     (c.reply_of.ensures ∙ rw (v, checked.0), (rw v checked.1.0, rw v checked.1.1))

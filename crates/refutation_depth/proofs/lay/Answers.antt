@@ -3,7 +3,6 @@
 use native.Mathlib.Omega.{arith}
 use Rattle.model.proofs.Wrote.{wrote_then}
 use Rattle.refutation_formula.proofs.WhereRoom.{wrote-put}
-use borrow.Author.Rules.{rules}
 use Rattle.refutation_depth.proofs.lay.Goals as goal
 
 pub returns : goal.returns

@@ -2,7 +2,6 @@
 
 use native.Mathlib.Omega.{arith}
 use Rattle.refutation_depth.specs.Certificate.{marks_need}
-use borrow.Author.Rules.{rules}
 use Rattle.refutation_depth.proofs.marks_need.Goals as goal
 
 pub returns : goal.returns

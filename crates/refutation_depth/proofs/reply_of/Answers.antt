@@ -1,7 +1,6 @@
 -- `refutation_depth::reply_of` meets its contract.
 
 use Rattle.refutation_depth.specs.Certificate.{certificate_reply}
-use borrow.Author.Rules.{rules}
 use Rattle.refutation_depth.proofs.reply_of.Goals as goal
 
 pub returns-in-Refuted : goal.returns-in-Refuted

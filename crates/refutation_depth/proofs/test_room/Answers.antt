@@ -5,7 +5,6 @@ use mathlib.Core.List.{[]}
 use native.Mathlib.Omega.{arith}
 use Rattle.netlist.proofs.NetOf.{sizes-lists}
 use Rattle.refutation_depth.proofs.Certificate.{marks-lists, store-short, marks-short, both-enough}
-use borrow.Author.Rules.{rules}
 use Rattle.refutation_depth.proofs.test_room.Goals as goal
 
 pub returns-then-store-front : goal.returns-then-store-front
@@ -22,5 +21,5 @@ returns-then-marks-marks_need c = sym (marks-short _ _ _ _ _ (omega (arith, c.if
     (omega (arith, c.if-marks-marks_need.true, c.marks_need.ensures, marks-lists c.args.net c.args.latches.now c.args.gates.now c.args.depth)))
 
 pub returns : goal.returns
-returns c = sym (both-enough _ _ _ _ _ (omega (arith, c.if-store-front-2.false, c.if-store-front.false, c.formula_length-front.ensures.0))
+returns-then-store-front c = sym (both-enough _ _ _ _ _ (omega (arith, c.if-store-front-2.false, c.if-store-front.false, c.formula_length-front.ensures.0))
     (omega (arith, c.if-marks-marks_need.false, c.marks_need.ensures, marks-lists c.args.net c.args.latches.now c.args.gates.now c.args.depth)))

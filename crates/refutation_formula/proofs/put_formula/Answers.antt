@@ -1,12 +1,11 @@
 -- `refutation_formula::put_formula` meets its contract. The loop's invariant: the groups before the one that is next are put, and with as many numbers as
 -- a group has at most for each that remains, the count fits.
 
-use Prim.Native.Nat.{◌+◌, ◌*◌, ◌≤◌}
+use Prim.Native.Nat.{◌+◌, ◌≤◌}
 use mathlib.Core.Path.{◌≡◌, ◌∙◌}
 use mathlib.Core.List.{List, [], ◌∷◌, ◌++◌}
 use native.Mathlib.Omega.{arith}
 use borrow.Author.Rules.{rules}
-use lib.ListN.{length}
 use Rattle.model.specs.Netlist.{ports}
 use Rattle.model.specs.Groups.{group_order}
 use Rattle.model.specs.declared.Group.{Group}
@@ -65,15 +64,15 @@ followed c =
     (e.0, e.1.1)
 
 pub loop-next-smaller : goal.loop-next-smaller
-loop-next-smaller c = rw c.in-Then.is (omega (arith, (followed (goal.at.loop-next-smaller c).After-next_group-next).1))
+loop-next-smaller c = rw c.in-Then.is (omega (arith, (followed c).1))
 
 pub loop-next-preserved : goal.loop-next-preserved
 unfolding net_of
 loop-next-preserved c =
     (
       c.put_where_room-at.auto.1.0 ∙ c.loop-next.invariant.0,
-      one_more (so_far (goal.at.loop-next-preserved c).In-Then) c.put_where_room-at.new.out c.smaller-from.result c.put_where_room-at.result c.next_group-next.result c.smaller-from.ensures.0 c.smaller-from.ensures.1 c.put_where_room-at.ensures.put_where_room.0 (followed (goal.at.loop-next-preserved c).After-next_group-next).0,
-      omega (arith, rw c.in-Then.is c.loop-next c.loop-next.invariant.2, c.put_where_room-at.ensures.put_where_room.1, (followed (goal.at.loop-next-preserved c).After-next_group-next).1),
+      one_more (so_far (goal.at.loop-next-preserved c).In-Then) c.put_where_room-at.new.out c.smaller-from.result c.put_where_room-at.result c.next_group-next.result c.smaller-from.ensures.0 c.smaller-from.ensures.1 c.put_where_room-at.ensures.put_where_room.0 (followed c).0,
+      omega (arith, rw c.in-Then.is c.loop-next c.loop-next.invariant.2, c.put_where_room-at.ensures.put_where_room.1, (followed c).1),
     )
 
 pub returns : goal.returns

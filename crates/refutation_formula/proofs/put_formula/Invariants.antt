@@ -2,20 +2,12 @@
 -- a group has at most for each that remains, the count fits.
 
 use Prim.Native.Nat.{◌+◌, ◌*◌, ◌≤◌}
-use mathlib.Core.Path.{◌≡◌, ◌∙◌}
-use mathlib.Core.List.{List, [], ◌∷◌, ◌++◌}
-use native.Mathlib.Omega.{arith}
-use borrow.Author.Rules.{rules}
+use mathlib.Core.Path.{◌≡◌}
 use lib.ListN.{length}
 use Rattle.model.specs.Netlist.{ports}
-use Rattle.model.specs.Groups.{group_order}
-use Rattle.model.specs.declared.Group.{Group}
 use Rattle.netlist.specs.NetOf.{net_of, alone}
-use Rattle.netlist.proofs.NetOf.{sizes-lists}
-use Rattle.group_order.specs.Next.{first_group, remaining_after, remaining_from}
-use Rattle.group_order.specs.declared.Next.TheVariants.{Then}
-use Rattle.group_order.proofs.Remaining.{first-remaining}
-use Rattle.refutation_formula.proofs.SoFar.{SoFar, nothing_yet, next-in_depth, one_more, all-put}
+use Rattle.group_order.specs.Next.{remaining_from}
+use Rattle.refutation_formula.proofs.SoFar.{SoFar}
 use Rattle.refutation_formula.proofs.put_formula.Given as goal
 
 abbrev pub invariant-loop-next : goal.invariant-loop-next

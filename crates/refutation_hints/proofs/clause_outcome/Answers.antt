@@ -3,15 +3,11 @@
 use Prim.Native.Nat.{ℕ, ◌+◌, ◌-◌, ◌*◌, ◌/◌}
 use mathlib.Core.Path.{◌≡◌, sym, ap, ◌∙◌}
 use mathlib.Core.Bool.{cond}
-use mathlib.Core.List.{List}
 use native.Mathlib.Omega.{arith}
-use borrow.Author.Rules.{rules}
 use borrow.Author.Tests.{lt-ltb, le-ltb}
-use lib.IntN.{ℤ, pos}
+use lib.IntN.{pos}
 use lib.ListN.{length, get_or, drop}
-use Rattle.model.specs.Numbers.{clauses_in}
-use Rattle.refutation_hints.specs.Propagation.{first_outcome}
-use Rattle.refutation_hints.specs.Marks.{slot_of, false_in, code_of, joined_code}
+use Rattle.refutation_hints.specs.Marks.{slot_of, false_in, joined_code}
 use Rattle.refutation_hints.proofs.Marks.{slot_read, slot-least, zero-joined_code, joined_code-zero, one-joined_code, joined_code-one, joined_code-joined_code}
 use Rattle.refutation_hints.proofs.Outcomes.{outcome-end, outcome-none, outcome-here}
 use Rattle.refutation_hints.proofs.clause_outcome.Invariants.{code_in}
@@ -98,7 +94,7 @@ pub loop-i-preserved : goal.loop-i-preserved
 loop-i-preserved c = next (goal.at.loop-i-preserved c).After-join-outcome
 
 pub returns : goal.returns
-returns c =
+returns-then-s-eq0 c =
     sym (joined_code-one c.loop-i.outcome)
     ∙ ap (joined_code c.loop-i.outcome) (sym (outcome-none (length c.args.marks.now / 2) (false_in c.args.marks.now c.args.turn) c.args.known.now c.loop-i.i c.loop-i-test.false))
     ∙ c.loop-i.invariant

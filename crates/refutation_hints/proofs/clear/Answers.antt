@@ -1,10 +1,8 @@
 -- `refutation_hints::clear` meets its contract. The loop has made every mark passed 0.
 
-use Prim.Native.Nat.{ℕ, ◌-◌, ◌≤◌, ◌<◌}
-use mathlib.Core.Path.{◌≡◌}
+use Prim.Native.Nat.{◌-◌}
 use native.Mathlib.Omega.{arith}
-use borrow.Author.Rules.{rules}
-use lib.ListN.{length, get_or, length-set}
+use lib.ListN.{length-set}
 use Rattle.refutation_hints.proofs.Marks.{cleared_more, cleared-all}
 use Rattle.refutation_hints.proofs.clear.Goals as goal
 

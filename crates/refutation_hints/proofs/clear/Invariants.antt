@@ -2,10 +2,7 @@
 
 use Prim.Native.Nat.{ℕ, ◌-◌, ◌≤◌, ◌<◌}
 use mathlib.Core.Path.{◌≡◌}
-use native.Mathlib.Omega.{arith}
-use borrow.Author.Rules.{rules}
-use lib.ListN.{length, get_or, length-set}
-use Rattle.refutation_hints.proofs.Marks.{cleared_more, cleared-all}
+use lib.ListN.{length, get_or}
 use Rattle.refutation_hints.proofs.clear.Given as goal
 
 abbrev pub invariant-loop-i : goal.invariant-loop-i

@@ -1,7 +1,6 @@
 -- `refutation_hints::hint_outcome` meets its contract.
 
 use mathlib.Core.Path.{sym, ◌∙◌}
-use borrow.Author.Rules.{rules}
 use Rattle.refutation_hints.specs.Propagation.{hint_outcome}
 use Rattle.refutation_hints.proofs.hint_outcome.Goals as goal
 
@@ -13,6 +12,6 @@ returns-then-starts_at c =
 
 pub returns : goal.returns
 unfolding hint_outcome
-returns c =
+returns-then-starts_at c =
     let starts = sym c.starts_at.ensures ∙ c.if-starts_at.false in
     rw starts

@@ -3,7 +3,6 @@
 use Prim.Native.Nat.{ℕ, ◌/◌}
 use mathlib.Core.Path.{sym, ap, ◌∙◌, fun_ext}
 use mathlib.Core.Bool.{Bool}
-use borrow.Author.Rules.{rules}
 use lib.IntN.{ℤ}
 use lib.ListN.{length}
 use Rattle.refutation_hints.specs.Propagation.{propagates, follows}
@@ -25,6 +24,6 @@ returns-then-mark_lemma c =
 
 pub returns : goal.returns
 unfolding follows
-returns c =
+returns-then-mark_lemma c =
     let some = sym c.mark_lemma.ensures.answer ∙ c.if-mark_lemma.false in
     record { answer = rw some; scratch = c.mark_lemma.ensures.marked.1 }

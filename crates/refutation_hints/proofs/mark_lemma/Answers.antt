@@ -1,16 +1,15 @@
 -- `refutation_hints::mark_lemma` meets its contract. What is marked and what is left of the lemma are the lemma.
 
-use Prim.Native.Nat.{◌+◌, ◌-◌, ◌*◌, ◌/◌, ◌≤◌, ◌<◌}
+use Prim.Native.Nat.{◌+◌, ◌-◌, ◌*◌, ◌/◌, ◌<◌}
 use mathlib.Core.Path.{◌≡◌, refl, sym, ◌∙◌}
-use mathlib.Core.Bool.{◌||◌, false≢true, or-false}
+use mathlib.Core.Bool.{false≢true, or-false}
 use native.Mathlib.Omega.{arith}
-use borrow.Author.Rules.{rules}
 use borrow.Author.Tests.{lt-ltb, le-ltb}
-use lib.IntN.{ℤ, pos}
+use lib.IntN.{pos}
 use lib.ListN.{length, get_or, drop, length-set, drop_of_length-le}
 use Rattle.answer_signs.specs.Signs.{among}
 use Rattle.refutation_hints.specs.Propagation.{every, within}
-use Rattle.refutation_hints.specs.Marks.{slot_of, false_in, UpTo}
+use Rattle.refutation_hints.specs.Marks.{slot_of, false_in}
 use Rattle.refutation_hints.proofs.Marks.{slot_read, slot-within, none-false, marked_more, up_to-more}
 use Rattle.refutation_hints.proofs.Clauses.{every_here, among-here}
 use Rattle.refutation_hints.proofs.mark_lemma.Goals as goal
@@ -79,6 +78,6 @@ shape_of-marks c = c.loop-i.invariant.1
 
 pub returns : goal.returns
 unfolding every among
-returns c =
+returns-then-limit-s c =
     let none = drop_of_length-le c.args.lemma.now c.loop-i-test.false in
     (rw none c.loop-i c.loop-i.invariant.3, (λ e z. sym (or-false (false_in c.loop-i.marks c.args.turn z)) ∙ rw none c.loop-i (c.loop-i.invariant.4 z), c.loop-i.invariant.2))

@@ -1,7 +1,6 @@
 -- `refutation_hints::opposite` meets its contract.
 
 use native.Mathlib.Omega.{arith}
-use borrow.Author.Rules.{rules}
 use Rattle.refutation_hints.proofs.Marks.{opposite-even, opposite-odd}
 use Rattle.refutation_hints.proofs.opposite.Goals as goal
 
@@ -13,4 +12,4 @@ returns-then-slot-eq0 c =
     (λ z e. opposite-even z c.args.slot c.requires c.if-slot-eq0.true e, omega arith)
 
 pub returns : goal.returns
-returns c = (λ z e. opposite-odd z c.args.slot c.if-slot-eq0.false e, omega arith)
+returns-then-slot-eq0 c = (λ z e. opposite-odd z c.args.slot c.if-slot-eq0.false e, omega arith)

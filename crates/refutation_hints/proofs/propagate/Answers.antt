@@ -6,13 +6,12 @@ use mathlib.Core.Bool.{Bool, true, false, ◌||◌}
 use mathlib.Core.List.{List}
 use native.Mathlib.Numerals.{add-one}
 use native.Mathlib.Omega.{arith}
-use borrow.Author.Rules.{rules}
 use lib.IntN.{ℤ, neg_ℤ}
 use lib.ListN.{length, get_or, drop, length-set, drop_of_length-le}
 use lib.Seq.{drop-cons}
 use Rattle.answer_signs.specs.Signs.{same_number}
 use Rattle.refutation_hints.specs.Propagation.{conflict, unit, undecided, hint_outcome, propagates}
-use Rattle.refutation_hints.specs.Marks.{slot_of, false_in, UpTo}
+use Rattle.refutation_hints.specs.Marks.{slot_of, false_in}
 use Rattle.refutation_hints.proofs.Marks.{false-more, up_to-more}
 use Rattle.refutation_hints.proofs.Outcomes.{hint-sane, code-conflict, code-undecided, IsUnit, code-unit}
 use Rattle.refutation_hints.proofs.propagate.Goals as goal
@@ -82,7 +81,7 @@ its-unit c =
     code-unit n (hint_outcome n c.args.known.now f h) (hint-sane n c.args.known.now f h) (λ p. c.if-outcome-eq0.false (e ∙ p)) (λ p. c.if-outcome-eq1.false (e ∙ p))
 
 pub opposite-other-requires : goal.opposite-other-requires
-opposite-other-requires c = omega (arith, c.hint_outcome-outcome.ensures, (its-unit (goal.at.opposite-other-requires c).Else-outcome-eq1).least)
+opposite-other-requires c = omega (arith, c.hint_outcome-outcome.ensures, (its-unit c).least)
 
 -- the mark of its opposite
 room : (c : After-opposite-other) → c.opposite-other.result < length c.loop-i.marks
@@ -90,10 +89,10 @@ room c = omega (arith, c.hint_outcome-outcome.ensures, (its-unit c⟨Else2⟩).m
 
 pub offset_bounds-marks-other : goal.offset_bounds-marks-other
 offset_bounds-marks-other c =
-    record { fits = omega (arith, room (goal.at.offset_bounds-marks-other c).After-opposite-other, c.loop-i.invariant.1, c.well_formed.1.1.0.1) }
+    record { fits = omega (arith, room c, c.loop-i.invariant.1, c.well_formed.1.1.0.1) }
 
 pub bounds-marks-other : goal.bounds-marks-other
-bounds-marks-other c = room (goal.at.bounds-marks-other c).After-opposite-other
+bounds-marks-other c = room c
 
 pub overflow_add-i : goal.overflow_add-i
 overflow_add-i c = omega arith
@@ -107,11 +106,11 @@ loop-i-preserved c =
     let f = false_in c.loop-i.marks c.args.turn in
     let u = its-unit (goal.at.loop-i-preserved c).Else-outcome-eq1 in
     let is : c.opposite-other.result ≡ slot_of (neg_ℤ u.z) = c.opposite-other.ensures.0 u.z (u.slot ∙ sym c.hint_outcome-outcome.ensures) in
-    let more = fun_ext (false-more c.loop-i.marks c.args.turn (neg_ℤ u.z) (rw is c.loop-i (room (goal.at.loop-i-preserved c).After-opposite-other))) in
+    let more = fun_ext (false-more c.loop-i.marks c.args.turn (neg_ℤ u.z) (rw is c.loop-i (room c))) in
     let on = propagates-unit n c.args.known.now f c.args.hints.now c.loop-i.i c.loop-i-test.true u.z u.is in (
       omega arith,
       simp length-set c.loop-i.invariant.1,
-      up_to-more c.loop-i.marks c.args.turn c.opposite-other.result (room (goal.at.loop-i-preserved c).After-opposite-other) c.loop-i.invariant.2,
+      up_to-more c.loop-i.marks c.args.turn c.opposite-other.result (room c) c.loop-i.invariant.2,
       rw (length-set, is, more) (sym on ∙ c.loop-i.invariant.3),
     )
 
@@ -119,5 +118,5 @@ pub shape_of-marks : goal.shape_of-marks
 shape_of-marks c = c.loop-i.invariant.1
 
 pub returns : goal.returns
-returns c =
+returns-then-outcome-eq0 c =
     record { answer = sym (propagates-none (length c.loop-i.marks / 2) c.args.known.now (false_in c.loop-i.marks c.args.turn) c.args.hints.now c.loop-i.i c.loop-i-test.false) ∙ c.loop-i.invariant.3; scratch = c.loop-i.invariant.2 }

@@ -1,20 +1,10 @@
 -- `refutation_hints::propagate` meets its contract. The hints that are left lead from what is false now where all hints led from what was false.
 
-use Prim.Native.Nat.{ℕ, ◌+◌, ◌-◌, ◌/◌, ◌≤◌, ◌<◌}
-use mathlib.Core.Path.{◌≡◌, refl, sym, ◌∙◌, fun_ext}
-use mathlib.Core.Bool.{Bool, true, false, ◌||◌}
-use mathlib.Core.List.{List}
-use native.Mathlib.Numerals.{add-one}
-use native.Mathlib.Omega.{arith}
-use borrow.Author.Rules.{rules}
-use lib.IntN.{ℤ, neg_ℤ}
-use lib.ListN.{length, get_or, drop, length-set, drop_of_length-le}
-use lib.Seq.{drop-cons}
-use Rattle.answer_signs.specs.Signs.{same_number}
-use Rattle.refutation_hints.specs.Propagation.{conflict, unit, undecided, hint_outcome, propagates}
-use Rattle.refutation_hints.specs.Marks.{slot_of, false_in, UpTo}
-use Rattle.refutation_hints.proofs.Marks.{false-more, up_to-more}
-use Rattle.refutation_hints.proofs.Outcomes.{hint-sane, code-conflict, code-undecided, IsUnit, code-unit}
+use Prim.Native.Nat.{◌-◌, ◌/◌, ◌≤◌}
+use mathlib.Core.Path.{◌≡◌}
+use lib.ListN.{length, drop}
+use Rattle.refutation_hints.specs.Propagation.{propagates}
+use Rattle.refutation_hints.specs.Marks.{false_in, UpTo}
 use Rattle.refutation_hints.proofs.propagate.Given as goal
 
 abbrev pub invariant-loop-i : goal.invariant-loop-i

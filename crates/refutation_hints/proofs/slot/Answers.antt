@@ -3,7 +3,6 @@
 use Prim.Native.Nat.{◌+◌, ◌*◌}
 use mathlib.Core.Path.{◌≡◌, ap, ◌∙◌}
 use native.Mathlib.Omega.{arith}
-use borrow.Author.Rules.{rules}
 use Rattle.decimal.proofs.Signed.{read_back}
 use Rattle.text_writer.specs.declared.Parts.{Parts}
 use Rattle.refutation_hints.specs.Marks.{slot_of}

@@ -3,7 +3,6 @@
 use Prim.Native.Nat.{◌-◌}
 use mathlib.Core.Path.{sym, ◌∙◌}
 use native.Mathlib.Omega.{arith}
-use borrow.Author.Rules.{rules}
 use Rattle.refutation_hints.proofs.Marks.{slot_read}
 use Rattle.refutation_hints.proofs.Clauses.{starts-front, starts-behind, starts-past}
 use Rattle.refutation_hints.proofs.starts_at.Goals as goal
@@ -18,6 +17,6 @@ returns-then-before-known c =
     rw read (starts-behind c.args.known.now c.args.place (c.args.place - 1) (omega arith) c.if-before-known.true)
 
 pub returns : goal.returns
-returns c =
+returns-then-place-eq0 c =
     let d = c.if-place-eq0.false in
     sym (starts-past c.args.known.now c.args.place (c.args.place - 1) (omega arith) c.if-before-known.false)

@@ -5,7 +5,6 @@ use mathlib.Core.Path.{◌≡◌, refl, sym, ap, ◌∙◌}
 use mathlib.Core.Bool.{Bool, true, false, cond, ◌&&◌}
 use mathlib.Core.List.{List}
 use native.Mathlib.Omega.{arith}
-use borrow.Author.Rules.{rules}
 use borrow.Author.Tests.{eq-eqb, ne_eqb, leb-true}
 use lib.Dec.{eqb, leb}
 use lib.IntN.{ℤ}
@@ -14,7 +13,6 @@ use Rattle.model.specs.Numbers.{clauses_in}
 use Rattle.model.proofs.Booleans.{and-true}
 use Rattle.refutation_hints.specs.Propagation.{follows}
 use Rattle.refutation_lemmas.specs.Refutation.{checked_from, checked, Unsatisfiable}
-use Rattle.refutation_hints.specs.Marks.{UpTo}
 use Rattle.refutation_lemmas.specs.declared.Checked.{Checked}
 use Rattle.refutation_lemmas.specs.declared.Checked.TheVariants.{Refuted, Unjustified}
 use Rattle.refutation_lemmas.proofs.Lemmas.{checked-here, checked-none, checked-over}
@@ -169,6 +167,6 @@ pub shape_of-marks : goal.shape_of-marks
 shape_of-marks c = c.loop-i.invariant.2 ∙ c.clear.auto.0
 
 pub returns : goal.returns
-returns c =
+returns-then-store-end c =
     found (take c.args.front c.args.store.now) (drop c.args.front c.args.store.now) c.args.hints.now (length c.clear.new.marks) (length c.args.marks.now) _ _ c.clear.auto.0 c.loop-i.invariant.2
     (sym (checked-over (length c.clear.new.marks / 2) (take c.loop-i.at c.args.store.now) (clauses_in (drop c.loop-i.at c.args.store.now)) c.args.hints.now c.loop-i.i c.loop-i.lemma c.loop-i-test.false) ∙ c.loop-i.invariant.4)

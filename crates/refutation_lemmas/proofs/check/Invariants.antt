@@ -1,24 +1,11 @@
 -- `refutation_lemmas::check` meets its contract. The lemmas and hints that are left are found to be what all of them are.
 
-use Prim.Native.Nat.{ℕ, ◌+◌, ◌-◌, ◌/◌, ◌≤◌}
-use mathlib.Core.Path.{◌≡◌, refl, sym, ap, ◌∙◌}
-use mathlib.Core.Bool.{Bool, true, false, cond, ◌&&◌}
-use mathlib.Core.List.{List}
-use native.Mathlib.Omega.{arith}
-use borrow.Author.Rules.{rules}
-use borrow.Author.Tests.{eq-eqb, ne_eqb, leb-true}
-use lib.Dec.{eqb, leb}
-use lib.IntN.{ℤ}
-use lib.ListN.{length, get_or, take, drop, length-drop}
+use Prim.Native.Nat.{◌-◌, ◌/◌, ◌≤◌}
+use mathlib.Core.Path.{◌≡◌}
+use lib.ListN.{length, take, drop}
 use Rattle.model.specs.Numbers.{clauses_in}
-use Rattle.model.proofs.Booleans.{and-true}
-use Rattle.refutation_hints.specs.Propagation.{follows}
-use Rattle.refutation_lemmas.specs.Refutation.{checked_from, checked, Unsatisfiable}
+use Rattle.refutation_lemmas.specs.Refutation.{checked_from, checked}
 use Rattle.refutation_hints.specs.Marks.{UpTo}
-use Rattle.refutation_lemmas.specs.declared.Checked.{Checked}
-use Rattle.refutation_lemmas.specs.declared.Checked.TheVariants.{Refuted, Unjustified}
-use Rattle.refutation_lemmas.proofs.Lemmas.{checked-here, checked-none, checked-over}
-use Rattle.refutation_lemmas.proofs.Soundness.{refuted-unsatisfiable}
 use Rattle.refutation_lemmas.proofs.check.Given as goal
 
 abbrev pub invariant-loop-i : goal.invariant-loop-i

@@ -1,13 +1,11 @@
 -- `refutation_lemmas::clause_end` meets its contract. No end mark stands between the place asked for and the loop's.
 
-use Prim.Native.Nat.{◌+◌, ◌-◌}
+use Prim.Native.Nat.{◌-◌}
 use mathlib.Core.Path.{◌≡◌, refl, ◌∙◌}
 use native.Mathlib.Omega.{arith}
-use borrow.Author.Rules.{rules}
 use lib.IntN.{pos}
-use lib.ListN.{length, get_or, drop}
+use lib.ListN.{get_or}
 use Rattle.refutation_hints.specs.Marks.{slot_of}
-use Rattle.refutation_lemmas.specs.Ends.{before_end}
 use Rattle.refutation_hints.proofs.Marks.{slot_read}
 use Rattle.refutation_lemmas.proofs.Ends.{ends_at, goes_on, ended}
 use Rattle.refutation_lemmas.proofs.clause_end.Goals as goal
@@ -45,5 +43,5 @@ loop-i-preserved c =
     omega (arith, c.loop-i.invariant, goes_on store c.loop-i.i here (rw (read (goal.at.loop-i-preserved c).After-slot) c.loop-i c.if-slot-eq0.false))
 
 pub returns : goal.returns
-returns c =
+returns-then-slot-eq0 c =
     omega (arith, c.loop-i.invariant, ended c.args.store.now c.loop-i.i c.loop-i-test.false)

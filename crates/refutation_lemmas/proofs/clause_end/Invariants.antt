@@ -1,15 +1,9 @@
 -- `refutation_lemmas::clause_end` meets its contract. No end mark stands between the place asked for and the loop's.
 
 use Prim.Native.Nat.{◌+◌, ◌-◌}
-use mathlib.Core.Path.{◌≡◌, refl, ◌∙◌}
-use native.Mathlib.Omega.{arith}
-use borrow.Author.Rules.{rules}
-use lib.IntN.{pos}
-use lib.ListN.{length, get_or, drop}
-use Rattle.refutation_hints.specs.Marks.{slot_of}
+use mathlib.Core.Path.{◌≡◌}
+use lib.ListN.{length, drop}
 use Rattle.refutation_lemmas.specs.Ends.{before_end}
-use Rattle.refutation_hints.proofs.Marks.{slot_read}
-use Rattle.refutation_lemmas.proofs.Ends.{ends_at, goes_on, ended}
 use Rattle.refutation_lemmas.proofs.clause_end.Given as goal
 
 abbrev pub invariant-loop-i : goal.invariant-loop-i

@@ -4,7 +4,6 @@ use Prim.Native.Nat.{◌+◌, ◌-◌}
 use mathlib.Core.Path.{◌≡◌}
 use native.Mathlib.Omega.{arith}
 use lib.ListN.{length, drop, length-take, length-drop}
-use borrow.Author.Rules.{rules}
 use borrow.Author.Tests.{le-leb, lt-leb}
 use Rattle.refutation_lemmas.proofs.is_justified.Goals as goal
 
@@ -17,5 +16,5 @@ returns-then-count-hints c =
     let there = c.if-count-hints.true in record { answer = rw (le-leb c.args.count (length (drop c.args.first c.args.hints.now)) (simp length-drop there)) (rw own at c.lemma_follows.ensures.answer); scratch = c.lemma_follows.ensures.scratch }
 
 pub returns : goal.returns
-returns c =
+returns-then-count-hints c =
     record { answer = rw (lt-leb c.args.count (length (drop c.args.first c.args.hints.now)) (simp length-drop c.if-count-hints.false)); scratch = λ s. omega (arith, c.requires.3 s) }

@@ -1,7 +1,6 @@
 -- `replay::print_answer` meets its contract: an input is refused whatever the answer, or taken.
 
 use native.Mathlib.Omega.{arith}
-use borrow.Author.Rules.{rules}
 use Rattle.program_replay.proofs.Printed.{refused-replay}
 use Rattle.replay.proofs.print_answer.Goals as goal
 

@@ -3,7 +3,6 @@
 use mathlib.Core.Path.{sym, ◌∙◌}
 use mathlib.Core.List.{[]}
 use native.Mathlib.Omega.{arith}
-use borrow.Author.Rules.{rules}
 use lib.Seq.{length-take-le}
 use Rattle.dimacs.proofs.Text.{length-refusal_text}
 use Rattle.group_counts.proofs.Counted.{wrote-front}
@@ -18,7 +17,7 @@ slice_bounds-text-end c =
     omega (arith, c.write_refusal-bytes.ensures.counted, c.write_refusal-bytes.auto.0, length-refusal_text c.args.number c.args.place c.ranges.number.fits c.ranges.place.fits)
 
 pub slice_bounds-write_text-end : goal.slice_bounds-write_text-end
-slice_bounds-write_text-end c = sym (length-take-le _ _ (array-share-prefix-text (goal.at.slice_bounds-write_text-end c).After-write_text-arg-1))
+slice_bounds-write_text-end c = sym (length-take-le _ _ (slice_bounds-text-end (goal.at.slice_bounds-write_text-end c).After-write_text-arg-1))
 
 pub write_text-requires : goal.write_text-requires
 write_text-requires c =

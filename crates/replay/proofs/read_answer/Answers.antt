@@ -1,6 +1,5 @@
 -- `replay::read_answer` meets its contract: what the scan is behind is the answer's text.
 
-use borrow.Author.Rules.{rules}
 use Rattle.replay.proofs.read_answer.Goals as goal
 
 pub returns : goal.returns

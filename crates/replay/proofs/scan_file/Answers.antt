@@ -1,19 +1,19 @@
 -- `replay::scan_file` meets its contract. The loop's invariant: the scan is behind a text of as many bytes as were read. Each full piece leaves fewer
 -- that can be read, so the loop ends.
 
-use Prim.Native.Nat.{◌-◌, ◌^◌, ◌<◌}
-use mathlib.Core.Path.{◌≡◌, sym, ◌∙◌}
+use Prim.Native.Nat.{◌-◌}
+use mathlib.Core.Path.{sym, ◌∙◌}
 use mathlib.Core.Bool.{true}
 use mathlib.Core.List.{[]}
 use native.Mathlib.Omega.{arith}
 use borrow.Author.Rules.{rules}
-use lib.ListN.{length}
 use lib.Seq.{length-take-le}
 use Rattle.model.proofs.Booleans.{not-true-false}
-use Rattle.answer_scan.specs.Scan.{LineKept, ScanBehind}
-use Rattle.replay.specs.SomeText.{SomeText}
 use Rattle.replay.proofs.SomeText.{one_more}
 use Rattle.replay.proofs.scan_file.Goals as goal
+
+pub slice_bounds-piece-end : goal.slice_bounds-piece-end
+slice_bounds-piece-end c = search rules
 
 pub loop-more-init : goal.loop-more-init
 loop-more-init c =
@@ -30,7 +30,7 @@ read_piece-bytes-requires c =
     omega (arith, inv.0, inv.3 c.loop-more-test.true)
 
 pub slice_bounds-scan_bytes-end : goal.slice_bounds-scan_bytes-end
-slice_bounds-scan_bytes-end c = sym (length-take-le _ c.read_piece-bytes.new.piece.0 (array-share-prefix-piece (goal.at.slice_bounds-scan_bytes-end c).After-scan_bytes-arg-1))
+slice_bounds-scan_bytes-end c = sym (length-take-le _ c.read_piece-bytes.new.piece.0 (slice_bounds-piece-end (goal.at.slice_bounds-scan_bytes-end c).After-scan_bytes-arg-1))
 
 pub scan_bytes-requires : goal.scan_bytes-requires
 scan_bytes-requires c = c.loop-more.invariant.1
@@ -41,7 +41,7 @@ returns-then-bytes-lt65536 c =
     (
       c.scan_bytes.ensures.holds,
       (
-        one_more inv.2 c.scan_bytes.ensures.behind (omega (arith, c.read_piece-bytes.ensures.counted.0, slice-aggregate-scan-bytes (goal.at.returns-then-bytes-lt65536 c).After-piece-then-bytes-lt65536-1)),
+        one_more inv.2 c.scan_bytes.ensures.behind (omega (arith, c.read_piece-bytes.ensures.counted.0, slice_bounds-scan_bytes-end (goal.at.returns-then-bytes-lt65536 c).After-piece-then-bytes-lt65536-1)),
         not-true-false _ (λ h. omega (arith, (c.read_piece-bytes.ensures.counted.1 h).0, c.read_piece-bytes.auto.1.0, inv.0, c.if-bytes-lt65536.true)),
       ),
     )
@@ -66,6 +66,6 @@ loop-more-preserved c =
     )
 
 pub returns : goal.returns
-returns c =
+returns-then-bytes-lt65536 c =
     let inv = c.loop-more.invariant in
     (inv.1, (inv.2, c.loop-more-test.false))

@@ -2,17 +2,11 @@
 -- that can be read, so the loop ends.
 
 use Prim.Native.Nat.{◌-◌, ◌^◌, ◌<◌}
-use mathlib.Core.Path.{◌≡◌, sym, ◌∙◌}
+use mathlib.Core.Path.{◌≡◌}
 use mathlib.Core.Bool.{true}
-use mathlib.Core.List.{[]}
-use native.Mathlib.Omega.{arith}
-use borrow.Author.Rules.{rules}
 use lib.ListN.{length}
-use lib.Seq.{length-take-le}
-use Rattle.model.proofs.Booleans.{not-true-false}
 use Rattle.answer_scan.specs.Scan.{LineKept, ScanBehind}
 use Rattle.replay.specs.SomeText.{SomeText}
-use Rattle.replay.proofs.SomeText.{one_more}
 use Rattle.replay.proofs.scan_file.Given as goal
 
 abbrev pub invariant-loop-more : goal.invariant-loop-more

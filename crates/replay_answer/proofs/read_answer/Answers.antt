@@ -1,7 +1,6 @@
 -- `replay_answer::read_answer` meets its contract: the answer is one piece.
 
 use mathlib.Core.List.{[]}
-use borrow.Author.Rules.{rules}
 use Rattle.replay_answer.proofs.read_answer.Goals as goal
 
 pub returns : goal.returns

@@ -2,7 +2,6 @@
 
 use mathlib.Core.Path.{◌∙◌}
 use Rattle.replay_answer.proofs.ReplayAnswer.{replay-is, memory-is, trace-is}
-use borrow.Author.Rules.{rules}
 use Rattle.replay_answer.proofs.replay.Goals as goal
 
 pub returns : goal.returns

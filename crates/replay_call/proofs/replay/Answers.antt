@@ -11,7 +11,6 @@ use Rattle.replay_call.proofs.ReplayCall.{tests-shown}
 use Rattle.replay_call.proofs.Settled.{faults-settled}
 use Rattle.replay_call.proofs.TableSuffices.{table-suffices}
 use Rattle.replay_call.proofs.RightAnswer.{right_answer}
-use borrow.Author.Rules.{rules}
 use Rattle.replay_call.proofs.replay.Goals as goal
 
 pub returns-in-Refused : goal.returns-in-Refused
@@ -22,13 +21,13 @@ returns-in-Refused c =
 pub word_count-requires : goal.word_count-requires
 word_count-requires c =
     let v = sym c.test_replay.ensures ∙ c.in_default.is in
-    sizes-lists c.args.net c.args.latches.now c.args.gates.now [] [] (tests-shown (net_of c.args.net c.args.latches.now c.args.gates.now) c.args.latch-count c.args.gate-count c.args.depth c.args.memory.now c.args.trace.now v).accepted.limits.sizes
+    sizes-lists c.args.net c.args.latches.now c.args.gates.now [] [] (tests-shown (net_of c.args.net c.args.latches.now c.args.gates.now) c.args.latch_count c.args.gate_count c.args.depth c.args.memory.now c.args.trace.now v).accepted.limits.sizes
 
 pub fill_words-requires : goal.fill_words-requires
 unfolding net_of
 fill_words-requires c =
     let v = sym c.test_replay.ensures ∙ c.in_default.is in
-    omega (arith, (tests-shown (net_of c.args.net c.args.latches.now c.args.gates.now) c.args.latch-count c.args.gate-count c.args.depth c.args.memory.now c.args.trace.now v).memory-size, c.word_count.ensures)
+    omega (arith, (tests-shown (net_of c.args.net c.args.latches.now c.args.gates.now) c.args.latch_count c.args.gate_count c.args.depth c.args.memory.now c.args.trace.now v).memory-size, c.word_count.ensures)
 
 pub returns-in-Malformed : goal.returns-in-Malformed
 unfolding net_of replay_reply replay_sent replay_answer replay_memory replay_trace unless_refused trace_after outcome words_left
@@ -45,7 +44,7 @@ returns-in-Unsatisfiable c =
 pub replay_values-requires : goal.replay_values-requires
 replay_values-requires c =
     let v = sym c.test_replay.ensures ∙ c.in_default.is in
-    tests-shown (net_of c.args.net c.args.latches.now c.args.gates.now) c.args.latch-count c.args.gate-count c.args.depth c.args.memory.now c.args.trace.now v
+    tests-shown (net_of c.args.net c.args.latches.now c.args.gates.now) c.args.latch_count c.args.gate_count c.args.depth c.args.memory.now c.args.trace.now v
 
 pub returns-in-Satisfiable : goal.returns-in-Satisfiable
 unfolding replay_reply replay_sent replay_answer replay_memory replay_trace unless_refused trace_after outcome words_left

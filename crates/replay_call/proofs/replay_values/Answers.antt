@@ -11,7 +11,6 @@ use Rattle.netlist.specs.NetOf.{net_of, alone}
 use Rattle.netlist.proofs.NetOf.{sizes-lists}
 use Rattle.replay_frame.specs.Replay.{said_in}
 use Rattle.replay_call.proofs.ReplayCall.{trace-small, values-unclear, values-safe, values-broken, lines-written}
-use borrow.Author.Rules.{rules}
 use Rattle.replay_call.proofs.replay_values.Goals as goal
 
 pub run-shown-requires : goal.run-shown-requires
@@ -80,7 +79,7 @@ write_word-requires c =
 
 pub returns : goal.returns
 unfolding net_of
-returns c =
+returns-then-shown c =
     let d = net_of c.args.net c.args.latches.now c.args.gates.now in
     let y = said_in c.args.signs.now in
     let ran = c.run-shown.ensures in

@@ -1,7 +1,6 @@
 -- `replay_call::reply_of` meets its contract.
 
 use Rattle.replay_call.specs.ReplayCall.{replay_reply}
-use borrow.Author.Rules.{rules}
 use Rattle.replay_call.proofs.reply_of.Goals as goal
 
 pub returns-in-Broken : goal.returns-in-Broken

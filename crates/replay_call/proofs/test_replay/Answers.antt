@@ -13,13 +13,12 @@ use Rattle.netlist_tests.specs.Record.{record_verdict}
 use Rattle.call_unpacked.specs.Calls.{test_depth}
 use Rattle.call_unpacked.proofs.Calls.{depth-shown}
 use Rattle.replay_call.proofs.ReplayCall.{tests-refused, tests-memory, tests-trace, tests-passed}
-use borrow.Author.Rules.{rules}
 use Rattle.replay_call.proofs.test_replay.Goals as goal
 use Rattle.replay_call.proofs.test_replay.Goals.{In_default}
 
 -- the record and the depth have passed their tests
 asked : (c : In_default) →
-    Passed ≡ (record_verdict (net_of c.args.net c.args.latches.now c.args.gates.now) c.args.latch-count c.args.gate-count then test_depth c.args.depth)
+    Passed ≡ (record_verdict (net_of c.args.net c.args.latches.now c.args.gates.now) c.args.latch_count c.args.gate_count then test_depth c.args.depth)
 asked c = sym c.in_default.is ∙ c.test_depth-asked.ensures
 
 -- what they have shown
@@ -36,7 +35,7 @@ returns-in-Refused c =
     refused ∙ sym (tests-refused _ _ _ _ _ _ (sym refused ∙ c.test_depth-asked.ensures))
 
 pub word_count-requires : goal.word_count-requires
-word_count-requires c = (shown (goal.at.word_count-requires c).In_default).0
+word_count-requires c = (shown c).0
 
 pub returns-then-words-word_count : goal.returns-then-words-word_count
 unfolding net_of
@@ -53,5 +52,5 @@ returns-then-room-trace_length c =
 
 pub returns : goal.returns
 unfolding net_of
-returns c =
+returns-in-Refused c =
     sym (tests-passed _ _ _ _ _ _ (asked (goal.at.returns c).In_default) (omega (arith, c.if-words-word_count.false, c.word_count.ensures)) (omega (arith, c.if-room-trace_length.false, c.trace_length.ensures)))

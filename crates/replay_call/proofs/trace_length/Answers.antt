@@ -3,7 +3,6 @@
 use native.Mathlib.Omega.{arith}
 use Rattle.netlist.specs.NetOf.{net_of}
 use Rattle.replay_call.proofs.ReplayCall.{trace-small}
-use borrow.Author.Rules.{rules}
 use Rattle.replay_call.proofs.trace_length.Goals as goal
 
 pub overflow_mul-result : goal.overflow_mul-result

@@ -7,7 +7,6 @@ use native.Mathlib.Omega.{arith}
 use Rattle.model.specs.Search.{any_below}
 use Rattle.model.proofs.Ports.{second-port}
 use Rattle.netlist.specs.NetOf.{net_of, alone}
-use borrow.Author.Rules.{rules}
 use Rattle.replay_frame.proofs.any_read_unclear.Goals as goal
 
 -- one place, and two
@@ -30,6 +29,6 @@ read_unclear-requires c =
 
 pub returns : goal.returns
 unfolding net_of
-returns c =
+returns-then-net-eq0 c =
     ap₂ ◌||◌ c.read_unclear-first.ensures c.read_unclear.ensures
     ∙ two-places _ c.args.net.second_port (omega (arith, c.if-net-eq0.false, c.requires.0.sizes.kind_fits))

@@ -1,12 +1,10 @@
 -- `replay_frame::any_unclear` meets its contract. The loop's invariant: what was found is of the first x variables.
 
-use Prim.Native.Nat.{◌+◌, ◌-◌, ◌≤◌}
+use Prim.Native.Nat.{◌-◌}
 use mathlib.Core.Path.{◌≡◌}
 use mathlib.Core.Bool.{false}
 use native.Mathlib.Omega.{arith}
-use Rattle.model.specs.Search.{any_below}
 use Rattle.model.proofs.Search.{any_none, any_next}
-use Rattle.answer_signs.specs.Signs.{unclear_in}
 use Rattle.replay_frame.proofs.any_unclear.Goals as goal
 
 pub loop-x-init : goal.loop-x-init

@@ -2,10 +2,7 @@
 
 use Prim.Native.Nat.{◌+◌, ◌-◌, ◌≤◌}
 use mathlib.Core.Path.{◌≡◌}
-use mathlib.Core.Bool.{false}
-use native.Mathlib.Omega.{arith}
 use Rattle.model.specs.Search.{any_below}
-use Rattle.model.proofs.Search.{any_none, any_next}
 use Rattle.answer_signs.specs.Signs.{unclear_in}
 use Rattle.replay_frame.proofs.any_unclear.Given as goal
 

@@ -11,7 +11,6 @@ use Rattle.model.proofs.Ports.{first-port}
 use Rattle.netlist.specs.NetOf.{net_of, alone}
 use Rattle.netlist.proofs.NetOf.{sizes-lists, limits-alone}
 use Rattle.replay_frame.proofs.Filling.{none_filled, filled-by}
-use borrow.Author.Rules.{rules}
 use Rattle.replay_frame.proofs.fill_word.Goals as goal
 
 pub returns-then-net-eq0 : goal.returns-then-net-eq0
@@ -45,6 +44,6 @@ returns-then-reads_untouched c =
 
 pub returns : goal.returns
 unfolding net_of address_of
-returns c =
+returns-then-net-eq0 c =
     let first = c.evaluate.ensures in
     record { filled = filled-by c.requires.0 first c.if-net-eq0.false (sym c.if-reads_untouched.false ∙ c.reads_untouched.ensures) refl; size = first.size }

@@ -13,7 +13,6 @@ use Rattle.model.proofs.Ports.{by-port, each-bit}
 use Rattle.model.proofs.Variables.{base-most}
 use Rattle.netlist.specs.NetOf.{net_of, alone}
 use Rattle.answer_signs.specs.Signs.{true_in}
-use borrow.Author.Rules.{rules}
 use Rattle.replay_frame.proofs.idle_words.Goals as goal
 
 pub frame_base-requires : goal.frame_base-requires
@@ -58,7 +57,7 @@ two_words-requires c = c.requires.n-most
 
 pub returns : goal.returns
 unfolding net_of idle_of
-returns c =
+returns-then-net-eq0 c =
     let d = alone c.args.net in
     let value : ℕ → Bool = true_in c.args.signs.now in
     each-bit d (λ x. bit c.two_words.result x ≡ value (base d 0 + read_wire d x))

@@ -11,7 +11,6 @@ use Rattle.netlist.specs.NetOf.{net_of, alone}
 use Rattle.answer_signs.specs.Signs.{unclear_in}
 use Rattle.replay_frame.specs.Replay.{fed_unclear}
 use Rattle.circuit_step.proofs.Touched.{any_same}
-use borrow.Author.Rules.{rules}
 use Rattle.replay_frame.proofs.judge_frame.Goals as goal
 
 pub overflow_add-base : goal.overflow_add-base

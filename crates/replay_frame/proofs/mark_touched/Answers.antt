@@ -8,7 +8,6 @@ use Rattle.netlist.specs.NetOf.{net_of, alone}
 use Rattle.netlist.specs.WireTable.{entry}
 use Rattle.replay_frame.specs.Frames.{touched_after}
 use Rattle.replay_frame.proofs.Filling.{address-small}
-use borrow.Author.Rules.{rules}
 use Rattle.replay_frame.proofs.mark_touched.Goals as goal
 
 pub code_value-reads-requires : goal.code_value-reads-requires

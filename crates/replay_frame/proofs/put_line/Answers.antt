@@ -1,14 +1,13 @@
 -- `replay_frame::put_line` meets its contract. The loop's invariant: the digits of the first w wires stand before what was there.
 
-use Prim.Native.Nat.{◌+◌, ◌-◌, ◌≤◌}
+use Prim.Native.Nat.{◌+◌, ◌-◌}
 use mathlib.Core.Path.{◌≡◌, refl, sym, ◌∙◌, ap}
 use native.Mathlib.Numerals.{add-one}
 use native.Mathlib.Omega.{arith}
-use lib.ListN.{length, length-set}
+use lib.ListN.{length-set}
 use Rattle.model.specs.Netlist.{last_wire}
 use Rattle.netlist.specs.NetOf.{net_of, alone}
 use Rattle.netlist.specs.WireTable.{entry}
-use Rattle.call_lists.specs.Delivered.{delivered}
 use Rattle.call_lists.proofs.Delivered.{delivered-none, delivered-next}
 use Rattle.replay_frame.specs.Replay.{digit_of}
 use Rattle.replay_frame.proofs.Replay.{line-ended}

@@ -1,17 +1,11 @@
 -- `replay_frame::put_line` meets its contract. The loop's invariant: the digits of the first w wires stand before what was there.
 
 use Prim.Native.Nat.{◌+◌, ◌-◌, ◌≤◌}
-use mathlib.Core.Path.{◌≡◌, refl, sym, ◌∙◌, ap}
-use native.Mathlib.Numerals.{add-one}
-use native.Mathlib.Omega.{arith}
-use lib.ListN.{length, length-set}
-use Rattle.model.specs.Netlist.{last_wire}
-use Rattle.netlist.specs.NetOf.{net_of, alone}
+use mathlib.Core.Path.{◌≡◌}
+use lib.ListN.{length}
 use Rattle.netlist.specs.WireTable.{entry}
 use Rattle.call_lists.specs.Delivered.{delivered}
-use Rattle.call_lists.proofs.Delivered.{delivered-none, delivered-next}
 use Rattle.replay_frame.specs.Replay.{digit_of}
-use Rattle.replay_frame.proofs.Replay.{line-ended}
 use Rattle.replay_frame.proofs.put_line.Given as goal
 
 abbrev pub invariant-loop-w : goal.invariant-loop-w

@@ -1,12 +1,10 @@
 -- `replay_frame::put_values` meets its contract. The loop's invariant: the table has the first x values.
 
-use Prim.Native.Nat.{ℕ, ◌+◌, ◌-◌, ◌≤◌, ◌<◌}
+use Prim.Native.Nat.{◌-◌}
 use mathlib.Core.Path.{◌≡◌}
 use native.Mathlib.Omega.{arith}
-use lib.ListN.{length, length-set}
-use Rattle.netlist.specs.WireTable.{entry}
+use lib.ListN.{length-set}
 use Rattle.circuit_step.proofs.Held.{set_next}
-use Rattle.answer_signs.specs.Signs.{true_in}
 use Rattle.replay_frame.proofs.put_values.Goals as goal
 
 pub loop-x-init : goal.loop-x-init

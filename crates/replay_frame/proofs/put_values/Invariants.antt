@@ -2,10 +2,8 @@
 
 use Prim.Native.Nat.{ℕ, ◌+◌, ◌-◌, ◌≤◌, ◌<◌}
 use mathlib.Core.Path.{◌≡◌}
-use native.Mathlib.Omega.{arith}
-use lib.ListN.{length, length-set}
+use lib.ListN.{length}
 use Rattle.netlist.specs.WireTable.{entry}
-use Rattle.circuit_step.proofs.Held.{set_next}
 use Rattle.answer_signs.specs.Signs.{true_in}
 use Rattle.replay_frame.proofs.put_values.Given as goal
 

@@ -6,7 +6,6 @@ use Rattle.model.proofs.Ports.{first-port}
 use Rattle.netlist.specs.NetOf.{net_of, alone}
 use Rattle.netlist.specs.WireTable.{entry}
 use Rattle.replay_frame.proofs.Filling.{address-small}
-use borrow.Author.Rules.{rules}
 use Rattle.replay_frame.proofs.reads_untouched.Goals as goal
 
 pub code_value-requires : goal.code_value-requires
@@ -26,5 +25,5 @@ returns-then-code_value c =
 
 pub returns : goal.returns
 unfolding net_of
-returns c =
+returns-then-code_value c =
     rw (sym c.code_value.ensures ∙ c.if-code_value.false)

@@ -17,7 +17,6 @@ use Rattle.circuit_step.specs.Held.{HoldsState, Fed}
 use Rattle.replay_frame.specs.Replay.{said_in, begun_from, word_said, start_words, replayed}
 use Rattle.replay_frame.specs.Frames.{touched_after, WordFilled}
 use Rattle.replay_frame.proofs.Filling.{filled-lists, filled_is, filled-holds, filled-behind, touched_after-is}
-use borrow.Author.Rules.{rules}
 use Rattle.replay_frame.proofs.step_fed.Goals as goal
 
 pub frame_base-base-requires : goal.frame_base-base-requires

@@ -1,12 +1,10 @@
 -- `replay_frame::word_of` meets its contract. The loop's invariant: the first t bits make the word.
 
-use Prim.Native.Nat.{◌+◌, ◌-◌, ◌≤◌}
+use Prim.Native.Nat.{◌-◌}
 use mathlib.Core.Path.{◌≡◌}
 use native.Mathlib.Omega.{arith}
-use Rattle.model.specs.Bits.{from_bits}
 use Rattle.model.proofs.Bits.{from_bits-below}
 use Rattle.circuit_values.proofs.Bits.{from_bits-none, from_bits-next}
-use Rattle.answer_signs.specs.Signs.{true_in}
 use Rattle.replay_frame.proofs.word_of.Goals as goal
 
 pub loop-t-init : goal.loop-t-init

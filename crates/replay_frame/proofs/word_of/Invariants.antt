@@ -2,10 +2,7 @@
 
 use Prim.Native.Nat.{◌+◌, ◌-◌, ◌≤◌}
 use mathlib.Core.Path.{◌≡◌}
-use native.Mathlib.Omega.{arith}
 use Rattle.model.specs.Bits.{from_bits}
-use Rattle.model.proofs.Bits.{from_bits-below}
-use Rattle.circuit_values.proofs.Bits.{from_bits-none, from_bits-next}
 use Rattle.answer_signs.specs.Signs.{true_in}
 use Rattle.replay_frame.proofs.word_of.Given as goal
 

@@ -10,7 +10,6 @@ use Rattle.model.proofs.Variables.{base-most}
 use Rattle.netlist.specs.NetOf.{net_of, alone}
 use Rattle.answer_signs.specs.Signs.{true_in}
 use Rattle.replay_frame.specs.Replay.{word_said}
-use borrow.Author.Rules.{rules}
 use Rattle.replay_frame.proofs.word_said.Goals as goal
 
 pub overflow_add-base : goal.overflow_add-base

@@ -1,11 +1,10 @@
 -- `replay_run::fill_words` meets its contract. The loop's invariant: the first x words are filled.
 
-use Prim.Native.Nat.{◌-◌, ◌≤◌}
+use Prim.Native.Nat.{◌-◌}
 use mathlib.Core.Path.{◌≡◌, refl, sym}
 use native.Mathlib.Numerals.{add-one}
 use native.Mathlib.Omega.{arith}
-use lib.ListN.{length, length-set}
-use Rattle.call_lists.specs.Delivered.{delivered}
+use lib.ListN.{length-set}
 use Rattle.call_lists.proofs.Delivered.{delivered-none, delivered-next}
 use Rattle.replay_run.proofs.fill_words.Goals as goal
 

@@ -1,12 +1,9 @@
 -- `replay_run::fill_words` meets its contract. The loop's invariant: the first x words are filled.
 
 use Prim.Native.Nat.{◌-◌, ◌≤◌}
-use mathlib.Core.Path.{◌≡◌, refl, sym}
-use native.Mathlib.Numerals.{add-one}
-use native.Mathlib.Omega.{arith}
-use lib.ListN.{length, length-set}
+use mathlib.Core.Path.{◌≡◌}
+use lib.ListN.{length}
 use Rattle.call_lists.specs.Delivered.{delivered}
-use Rattle.call_lists.proofs.Delivered.{delivered-none, delivered-next}
 use Rattle.replay_run.proofs.fill_words.Given as goal
 
 abbrev pub invariant-loop-x : goal.invariant-loop-x

@@ -2,7 +2,6 @@
 
 use borrow.Author.Tests.{eq-eqb, ne_eqb}
 use Rattle.replay_run.specs.Runs.{next_first}
-use borrow.Author.Rules.{rules}
 use Rattle.replay_run.proofs.next_first.Goals as goal
 
 pub returns-then-broken : goal.returns-then-broken
@@ -17,5 +16,5 @@ returns-then-first-i c =
 
 pub returns : goal.returns
 unfolding next_first
-returns c =
+returns-then-broken c =
     rw (c.if-broken.false, ne_eqb _ _ c.if-first-i.false)

@@ -8,7 +8,6 @@ use Rattle.netlist.specs.NetOf.{net_of}
 use Rattle.call_lists.proofs.Delivered.{behind-delivered}
 use Rattle.replay_frame.specs.Replay.{said_in}
 use Rattle.replay_run.proofs.Runs.{initial-held}
-use borrow.Author.Rules.{rules}
 use Rattle.replay_run.proofs.put_initial.Goals as goal
 
 pub returns : goal.returns

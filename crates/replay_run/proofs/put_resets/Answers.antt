@@ -1,12 +1,10 @@
 -- `replay_run::put_resets` meets its contract. The loop's invariant: the first l latches are at their reset.
 
-use Prim.Native.Nat.{ℕ, ◌-◌, ◌≤◌, ◌<◌}
+use Prim.Native.Nat.{◌-◌}
 use mathlib.Core.Path.{◌≡◌, refl}
 use native.Mathlib.Omega.{arith}
-use lib.Dec.{eqb}
-use lib.ListN.{length, length-set}
-use Rattle.netlist.specs.NetOf.{second_at, net_of}
-use Rattle.netlist.specs.WireTable.{entry}
+use lib.ListN.{length-set}
+use Rattle.netlist.specs.NetOf.{net_of}
 use Rattle.circuit_step.proofs.Held.{set_next}
 use Rattle.replay_run.proofs.put_resets.Goals as goal
 

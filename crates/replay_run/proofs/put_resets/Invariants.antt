@@ -1,13 +1,11 @@
 -- `replay_run::put_resets` meets its contract. The loop's invariant: the first l latches are at their reset.
 
 use Prim.Native.Nat.{ℕ, ◌-◌, ◌≤◌, ◌<◌}
-use mathlib.Core.Path.{◌≡◌, refl}
-use native.Mathlib.Omega.{arith}
+use mathlib.Core.Path.{◌≡◌}
 use lib.Dec.{eqb}
-use lib.ListN.{length, length-set}
-use Rattle.netlist.specs.NetOf.{second_at, net_of}
+use lib.ListN.{length}
+use Rattle.netlist.specs.NetOf.{second_at}
 use Rattle.netlist.specs.WireTable.{entry}
-use Rattle.circuit_step.proofs.Held.{set_next}
 use Rattle.replay_run.proofs.put_resets.Given as goal
 
 abbrev pub invariant-loop-l : goal.invariant-loop-l

@@ -4,13 +4,12 @@ use Prim.Native.Nat.{◌+◌, ◌-◌}
 use mathlib.Core.Path.{◌≡◌}
 use mathlib.Core.List.{[]}
 use native.Mathlib.Omega.{arith}
-use borrow.Author.Rules.{rules}
 use borrow.Rule.Slice.PartMut.{mid_len, same_len_mid}
 use lib.ListN.{length}
 use Rattle.netlist.specs.NetOf.{net_of}
 use Rattle.netlist.proofs.NetOf.{sizes-lists}
 use Rattle.replay_frame.specs.Replay.{said_in}
-use Rattle.replay_run.proofs.Through.{Through, through-none, through-next, through-all, lines-room, lines-small}
+use Rattle.replay_run.proofs.Through.{through-none, through-next, through-all, lines-room, lines-small}
 use Rattle.replay_run.proofs.run.Goals as goal
 
 pub no_values-values-requires : goal.no_values-values-requires

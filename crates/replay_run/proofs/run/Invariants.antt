@@ -1,16 +1,9 @@
 -- `replay_run::run` meets its contract. The loop's invariant: what the first i frames have left (proofs/Through.antt).
 
 use Prim.Native.Nat.{◌+◌, ◌-◌}
-use mathlib.Core.Path.{◌≡◌}
-use mathlib.Core.List.{[]}
-use native.Mathlib.Omega.{arith}
-use borrow.Author.Rules.{rules}
-use borrow.Rule.Slice.PartMut.{mid_len, same_len_mid}
-use lib.ListN.{length}
 use Rattle.netlist.specs.NetOf.{net_of}
-use Rattle.netlist.proofs.NetOf.{sizes-lists}
 use Rattle.replay_frame.specs.Replay.{said_in}
-use Rattle.replay_run.proofs.Through.{Through, through-none, through-next, through-all, lines-room, lines-small}
+use Rattle.replay_run.proofs.Through.{Through}
 use Rattle.replay_run.proofs.run.Given as goal
 
 abbrev pub invariant-loop-i : goal.invariant-loop-i

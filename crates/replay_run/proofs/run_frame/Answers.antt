@@ -6,7 +6,6 @@ use Rattle.netlist.specs.NetOf.{net_of}
 use Rattle.netlist.proofs.NetOf.{sizes-lists, limits-alone}
 use Rattle.replay_frame.specs.Replay.{said_in, fed_unclear, frame_line}
 use Rattle.replay_run.proofs.Runs.{shown_by, line-by}
-use borrow.Author.Rules.{rules}
 use Rattle.replay_run.proofs.run_frame.Goals as goal
 
 pub put_line-requires : goal.put_line-requires

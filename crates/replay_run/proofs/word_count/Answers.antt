@@ -3,7 +3,6 @@
 use native.Mathlib.Omega.{arith}
 use lib.Pow.{pow_pos}
 use Rattle.netlist.specs.NetOf.{net_of}
-use borrow.Author.Rules.{rules}
 use Rattle.replay_run.proofs.word_count.Goals as goal
 
 pub with_bit-requires : goal.with_bit-requires

@@ -1,6 +1,5 @@
 -- `sheet_lines::content_of` meets its contract, by the rule of the table.
 
-use borrow.Author.Rules.{rules}
 use Rattle.sheet_lines.proofs.Letters.{content-at}
 use Rattle.sheet_lines.proofs.content_of.Goals as goal
 

@@ -2,7 +2,6 @@
 
 use mathlib.Core.Path.{sym, ◌∙◌}
 use native.Mathlib.Omega.{arith}
-use borrow.Author.Rules.{rules}
 use lib.Seq.{length-take-le}
 use Rattle.sheet_lines.proofs.Depth.{depth_field-columns, depth_field-short, depth_field-no-feed}
 use Rattle.sheet_lines.proofs.depth_field.Goals as goal

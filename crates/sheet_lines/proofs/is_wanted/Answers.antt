@@ -1,6 +1,5 @@
 -- `sheet_lines::is_wanted` meets its contract.
 
-use borrow.Author.Rules.{rules}
 use Rattle.sheet_lines.proofs.is_wanted.Goals as goal
 
 pub returns-in-Empty : goal.returns-in-Empty

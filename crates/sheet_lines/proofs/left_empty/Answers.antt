@@ -1,7 +1,6 @@
 -- `sheet_lines::left_empty` meets its contract: the table's 2, then the field.
 
 use mathlib.Core.Path.{sym, ◌∙◌}
-use borrow.Author.Rules.{rules}
 use borrow.Author.Tests.{eq-eqb}
 use Rattle.sheet_lines.specs.Letters.{content_of}
 use Rattle.sheet_lines.proofs.Lines.{left-firm}
@@ -18,5 +17,5 @@ pub returns-in-Misprinted : goal.returns-in-Misprinted
 returns-in-Misprinted c = rw c.in-Misprinted.is
 
 pub returns : goal.returns
-returns c =
+returns-in-Empty c =
     sym (left-firm (content_of c.args.kind 2) c.args.third (λ e. c.if-content_of-eq-MAY_BE_EMPTY.false (c.content_of.ensures ∙ e)))

@@ -3,7 +3,6 @@
 use mathlib.Core.Path.{◌≡◌, refl, sym, ◌∙◌}
 use mathlib.Core.Bool.{true, false}
 use native.Mathlib.Omega.{arith}
-use borrow.Author.Rules.{rules}
 use borrow.Author.Tests.{lt-ltb, le-ltb, not-true, not-false}
 use Rattle.sheet_lines.specs.Letters.{row_of, is_known, content_of}
 use Rattle.sheet_lines.specs.Lines.{as_wanted}
@@ -55,7 +54,7 @@ returns-then-not-is_wanted-3 c =
     (first-wanted (goal.at.returns-then-not-is_wanted-3 c).Else-not-is_wanted) (second-wanted (goal.at.returns-then-not-is_wanted-3 c).Else-not-is_wanted-2) other)
 
 pub returns : goal.returns
-returns c =
+returns-then-row_of-ge10 c =
     rw (c.value_of.ensures, c.value_of-2.ensures, c.value_of-3.ensures, c.left_empty.ensures)
     (sym
     (line_with-tests c.args.kind c.args.first c.args.second c.args.third true true true true (known (goal.at.returns c).Else-row_of-ge10)

@@ -1,7 +1,6 @@
 -- `sheet_lines::read_depth` meets its contract.
 
 use mathlib.Core.Path.{◌≡◌, ◌∙◌, ap}
-use borrow.Author.Rules.{rules}
 use Rattle.refusals.specs.Refusal.{reply_of}
 use Rattle.sheet_lines.specs.Depth.{depth_verdict, depth_line}
 use Rattle.sheet_lines.specs.declared.DepthLine.{DepthLine}

@@ -2,7 +2,6 @@
 
 use mathlib.Core.Path.{sym, ◌∙◌}
 use native.Mathlib.Omega.{arith}
-use borrow.Author.Rules.{rules}
 use Rattle.sheet_lines.specs.Lines.{field_in}
 use Rattle.sheet_lines.proofs.Lines.{line_of-fields, line_of-length, line_of-no-feed, lines-as-written}
 use Rattle.sheet_lines.proofs.read_line.Goals as goal

@@ -1,7 +1,6 @@
 -- `sheet_lines::test_depth` meets its contract: form, then value.
 
 use native.Mathlib.Omega.{arith}
-use borrow.Author.Rules.{rules}
 use borrow.Author.Tests.{lt-ltb, le-ltb}
 use Rattle.refusals.specs.Tests.{◌then◌}
 use Rattle.sheet_lines.specs.Depth.{field_verdict}

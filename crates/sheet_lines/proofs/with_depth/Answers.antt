@@ -1,6 +1,5 @@
 -- `sheet_lines::with_depth` meets its contract.
 
-use borrow.Author.Rules.{rules}
 use Rattle.sheet_lines.specs.Depth.{with_depth}
 use Rattle.sheet_lines.proofs.with_depth.Goals as goal
 

@@ -2,7 +2,6 @@
 
 use mathlib.Core.Path.{◌≡◌}
 use native.Mathlib.Omega.{arith}
-use borrow.Author.Rules.{rules}
 use Rattle.model.specs.Netlist.{read_wire, gate_wire}
 use Rattle.model.specs.OnePort.{names_second}
 use Rattle.netlist.specs.NetOf.{net_of, alone}

@@ -2,12 +2,11 @@
 
 use Prim.Native.Nat.{◌-◌, ◌≤◌}
 use mathlib.Core.Path.{◌≡◌}
-use native.Mathlib.Omega.{arith}
 use lib.ListN.{length}
 use Rattle.model.specs.OnePort.{one_code}
 use Rattle.literals.specs.declared.Code.{Code}
-use Rattle.netlist.specs.NetOf.{code_of, alone}
-use Rattle.sheet_one_port.proofs.Mapped.{Mapped, mapped-none, mapped_next}
+use Rattle.netlist.specs.NetOf.{alone}
+use Rattle.sheet_one_port.proofs.Mapped.{Mapped}
 use Rattle.sheet_one_port.proofs.one_address.Given as goal
 
 abbrev pub invariant-loop-t : goal.invariant-loop-t

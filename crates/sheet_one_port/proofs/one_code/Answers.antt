@@ -3,7 +3,6 @@
 use Prim.Native.Nat.{◌*◌, ◌≤◌}
 use mathlib.Core.Path.{sym, ◌∙◌}
 use native.Mathlib.Omega.{arith}
-use borrow.Author.Rules.{rules}
 use borrow.Author.Tests.{ltb-true, ltb-false}
 use Rattle.model.specs.Netlist.{gate_wire}
 use Rattle.model.proofs.Ports.{second-most}
@@ -39,5 +38,5 @@ overflow_sub-result c = omega (arith, behind (goal.at.overflow_sub-result c).Els
 
 pub returns : goal.returns
 unfolding net_of
-returns c =
+returns-then-is_below c =
     sym (code-behind (alone c.args.net) c.args.code.0 (behind (goal.at.returns c).Else-is_below) (omega arith))

@@ -1,13 +1,10 @@
 -- `sheet_one_port::one_data` meets its contract. The loop has renumbered the write-data codes up to t.
 
-use Prim.Native.Nat.{◌-◌, ◌≤◌}
-use mathlib.Core.Path.{◌≡◌}
+use Prim.Native.Nat.{◌-◌}
 use native.Mathlib.Omega.{arith}
-use lib.ListN.{length}
 use Rattle.model.specs.OnePort.{one_code}
-use Rattle.literals.specs.declared.Code.{Code}
-use Rattle.netlist.specs.NetOf.{code_of, alone}
-use Rattle.sheet_one_port.proofs.Mapped.{Mapped, mapped-none, mapped_next}
+use Rattle.netlist.specs.NetOf.{code_of}
+use Rattle.sheet_one_port.proofs.Mapped.{mapped-none, mapped_next}
 use Rattle.sheet_one_port.proofs.one_data.Goals as goal
 
 pub loop-t-init : goal.loop-t-init

@@ -1,12 +1,9 @@
 -- `sheet_one_port::renumber` meets its contract. The loop has renumbered the entries up to i.
 
-use Prim.Native.Nat.{ℕ, ◌-◌, ◌≤◌}
-use mathlib.Core.Path.{◌≡◌}
+use Prim.Native.Nat.{◌-◌}
 use native.Mathlib.Omega.{arith}
-use lib.ListN.{length}
 use Rattle.model.specs.OnePort.{one_code}
-use Rattle.netlist.specs.NetOf.{alone}
-use Rattle.sheet_one_port.proofs.Mapped.{Mapped, mapped-none, mapped_next}
+use Rattle.sheet_one_port.proofs.Mapped.{mapped-none, mapped_next}
 use Rattle.sheet_one_port.proofs.renumber.Goals as goal
 
 pub loop-i-init : goal.loop-i-init

@@ -2,11 +2,10 @@
 
 use Prim.Native.Nat.{ℕ, ◌-◌, ◌≤◌}
 use mathlib.Core.Path.{◌≡◌}
-use native.Mathlib.Omega.{arith}
 use lib.ListN.{length}
 use Rattle.model.specs.OnePort.{one_code}
 use Rattle.netlist.specs.NetOf.{alone}
-use Rattle.sheet_one_port.proofs.Mapped.{Mapped, mapped-none, mapped_next}
+use Rattle.sheet_one_port.proofs.Mapped.{Mapped}
 use Rattle.sheet_one_port.proofs.renumber.Given as goal
 
 abbrev pub invariant-loop-i : goal.invariant-loop-i

@@ -2,7 +2,6 @@
 
 use mathlib.Core.Path.{subst}
 use native.Mathlib.Omega.{arith}
-use borrow.Author.Rules.{rules}
 use Rattle.model.specs.OnePort.{names_second}
 use Rattle.netlist.specs.NetOf.{code_of, net_of, alone}
 use Rattle.netlist.specs.Places.{HasLine}

@@ -1,6 +1,6 @@
 -- `sheet_one_port::test_second` meets its contract. The loop's invariant: the lines up to the place do not use the second port.
 
-use Prim.Native.Nat.{◌+◌, ◌-◌, ◌≤◌}
+use Prim.Native.Nat.{◌+◌, ◌-◌}
 use mathlib.Core.Path.{◌≡◌, refl, sym, ◌∙◌, ap}
 use native.Mathlib.Omega.{arith}
 use Rattle.refusals.specs.Tests.{in_order}
@@ -9,7 +9,7 @@ use Rattle.netlist.specs.NetOf.{net_of, alone}
 use Rattle.netlist.specs.Places.{line_at}
 use Rattle.netlist.proofs.NetOf.{line_at-lists}
 use Rattle.netlist.proofs.Places.{has-line_at}
-use Rattle.netlist_tests.proofs.Record.{PassedTo, passed-next, refused-next, passed-all}
+use Rattle.netlist_tests.proofs.Record.{passed-next, refused-next, passed-all}
 use Rattle.sheet_one_port.specs.SecondPort.{second_use}
 use Rattle.sheet_one_port.proofs.test_second.Goals as goal
 use Rattle.sheet_one_port.proofs.test_second.Goals.{After-second_use}
@@ -56,7 +56,7 @@ loop-place-preserved c =
 
 pub returns : goal.returns
 unfolding net_of
-returns c =
+returns-then-second_use c =
     sym (passed-all (net_of c.args.net c.args.latches.now c.args.gates.now) SecondPort second_use
     c.loop-place.place
     (omega (arith, c.control_line-last.ensures))

@@ -1,15 +1,9 @@
 -- `sheet_one_port::test_second` meets its contract. The loop's invariant: the lines up to the place do not use the second port.
 
-use Prim.Native.Nat.{◌+◌, ◌-◌, ◌≤◌}
-use mathlib.Core.Path.{◌≡◌, refl, sym, ◌∙◌, ap}
-use native.Mathlib.Omega.{arith}
-use Rattle.refusals.specs.Tests.{in_order}
+use Prim.Native.Nat.{◌-◌, ◌≤◌}
 use Rattle.refusals.specs.declared.Refusal.TheVariants.{SecondPort}
-use Rattle.netlist.specs.NetOf.{net_of, alone}
-use Rattle.netlist.specs.Places.{line_at}
-use Rattle.netlist.proofs.NetOf.{line_at-lists}
-use Rattle.netlist.proofs.Places.{has-line_at}
-use Rattle.netlist_tests.proofs.Record.{PassedTo, passed-next, refused-next, passed-all}
+use Rattle.netlist.specs.NetOf.{net_of}
+use Rattle.netlist_tests.proofs.Record.{PassedTo}
 use Rattle.sheet_one_port.specs.SecondPort.{second_use}
 use Rattle.sheet_one_port.proofs.test_second.Given as goal
 

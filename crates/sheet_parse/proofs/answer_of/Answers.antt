@@ -1,6 +1,5 @@
 -- `sheet_parse::answer_of` meets its contract: each arm knows its line.
 
-use borrow.Author.Rules.{rules}
 use Rattle.sheet_parse.proofs.answer_of.Goals as goal
 
 pub returns-in-Misprint : goal.returns-in-Misprint

@@ -1,7 +1,6 @@
 -- `sheet_parse::has_line` meets its contract: it is the definition.
 
 use mathlib.Core.Path.{refl}
-use borrow.Author.Rules.{rules}
 use Rattle.sheet_parse.specs.LineAnswers.{has_line}
 use Rattle.sheet_parse.proofs.has_line.Goals as goal
 

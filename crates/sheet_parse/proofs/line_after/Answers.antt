@@ -3,7 +3,6 @@
 use mathlib.Core.Path.{◌≡◌, sym, ◌∙◌}
 use mathlib.Core.Bool.{true}
 use native.Mathlib.Omega.{arith}
-use borrow.Author.Rules.{rules}
 use borrow.Author.Tests.{not-true, not-false}
 use Rattle.sheet_parse.specs.LineAnswers.{has_line}
 use Rattle.sheet_parse.proofs.LineAnswers.{line-there, after_none, after-there}
@@ -20,11 +19,11 @@ returns-then-not-has_line c =
 
 pub overflow_add-place : goal.overflow_add-place
 overflow_add-place c =
-    record { fits = omega (arith, (line-there c.args.file.now c.args.line (there (goal.at.overflow_add-place c).Else-not-has_line)).0) }
+    record { fits = omega (arith, (line-there c.args.file.now c.args.line (there c)).0) }
 
 pub parse_line-requires : goal.parse_line-requires
 parse_line-requires c =
-    (line-there c.args.file.now c.args.line (there (goal.at.parse_line-requires c).Else-not-has_line)).1
+    (line-there c.args.file.now c.args.line (there c)).1
 
 pub returns : goal.returns
-returns c = rw (c.answer_of.ensures, c.parse_line.ensures, after-there _ _ (there (goal.at.returns c).Else-not-has_line))
+returns-then-not-has_line c = rw (c.answer_of.ensures, c.parse_line.ensures, after-there _ _ (there (goal.at.returns c).Else-not-has_line))

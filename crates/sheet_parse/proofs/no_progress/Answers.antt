@@ -1,6 +1,5 @@
 -- `sheet_parse::no_progress` meets its contract: it is the definition.
 
-use borrow.Author.Rules.{rules}
 use Rattle.sheet_steps.specs.Records.{record_beside}
 use Rattle.sheet_parse.specs.Progress.{no_progress}
 use Rattle.sheet_parse.proofs.no_progress.Goals as goal

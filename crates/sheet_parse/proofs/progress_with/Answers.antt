@@ -1,6 +1,5 @@
 -- `sheet_parse::progress_with` meets its contract: each arm knows its verdict.
 
-use borrow.Author.Rules.{rules}
 use Rattle.sheet_parse.proofs.progress_with.Goals as goal
 
 pub returns-in-Passed : goal.returns-in-Passed

@@ -1,7 +1,6 @@
 -- `sheet_parse::take_answer` meets its contract: each arm knows its answer.
 
 use mathlib.Core.Path.{refl}
-use borrow.Author.Rules.{rules}
 use Rattle.sheet_steps.proofs.Records.{outcome-refused, outcome-passed}
 use Rattle.sheet_parse.proofs.take_answer.Goals as goal
 

@@ -1,6 +1,5 @@
 -- `sheet_steps::is_due` meets its contract, by rows of the table.
 
-use borrow.Author.Rules.{rules}
 use Rattle.sheet_steps.proofs.is_due.Goals as goal
 
 pub returns : goal.returns

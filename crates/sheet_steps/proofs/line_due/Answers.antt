@@ -4,7 +4,6 @@ use native.Mathlib.Omega.{arith}
 use mathlib.Core.Path.{sym}
 use Rattle.netlist.specs.NetOf.{alone}
 use Rattle.netlist.proofs.Places.{at-sizes, at-memory}
-use borrow.Author.Rules.{rules}
 use Rattle.sheet_steps.proofs.line_due.Goals as goal
 
 pub returns-then-place-le1 : goal.returns-then-place-le1

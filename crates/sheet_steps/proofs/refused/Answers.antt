@@ -1,6 +1,5 @@
 -- `sheet_steps::refused` meets its contract: it is the definition.
 
-use borrow.Author.Rules.{rules}
 use Rattle.sheet_steps.proofs.refused.Goals as goal
 
 pub returns : goal.returns

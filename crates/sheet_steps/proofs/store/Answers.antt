@@ -6,7 +6,6 @@ use Rattle.netlist.specs.declared.Line.{Line}
 use Rattle.sheet_steps.specs.LineIndex.{line_index, room_for}
 use Rattle.sheet_steps.specs.Steps.{stored}
 use Rattle.sheet_steps.proofs.Steps.{holds-latch, holds-gate}
-use borrow.Author.Rules.{rules}
 use Rattle.sheet_steps.proofs.store.Goals as goal
 
 -- the number of a line whose kind is known is within its room

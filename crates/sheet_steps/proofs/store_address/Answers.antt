@@ -7,7 +7,6 @@ use lib.ListN.{length, length-set}
 use Rattle.netlist.specs.NetOf.{net_of}
 use Rattle.sheet_steps.specs.Steps.{stored}
 use Rattle.sheet_steps.proofs.Steps.{code-set}
-use borrow.Author.Rules.{rules}
 use Rattle.sheet_steps.proofs.Lists.{full-kept}
 use Rattle.sheet_steps.proofs.store_address.Goals as goal
 

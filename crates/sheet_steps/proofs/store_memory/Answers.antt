@@ -1,7 +1,6 @@
 -- `sheet_steps::store_memory` meets its contract: it sets what the line has.
 
 use mathlib.Core.Path.{refl}
-use borrow.Author.Rules.{rules}
 use Rattle.netlist.specs.NetOf.{net_of}
 use Rattle.sheet_steps.specs.Steps.{stored}
 use Rattle.sheet_steps.proofs.Lists.{full-kept}

@@ -10,7 +10,6 @@ use Rattle.sheet_steps.specs.Lists.{Holds}
 use Rattle.sheet_steps.proofs.Places.{room_for-due}
 use Rattle.sheet_steps.proofs.Steps.{sizes_known-step, due-step, out_of_order, step-refused, step-due}
 use Rattle.sheet_steps.proofs.Records.{outcome-refused, outcome-passed}
-use borrow.Author.Rules.{rules}
 use Rattle.sheet_steps.proofs.take_line.Goals as goal
 use Rattle.sheet_steps.proofs.take_line.Goals.{After-is_due, After-line_due-due, After-store-next, After-test_stored-verdict}
 
@@ -60,6 +59,6 @@ returns-in-Refused c =
     rw c.refused-in-Refused.ensures (outcome-refused _ _ _ (sym (judged (goal.at.returns-in-Refused c).After-test_stored-verdict) ∙ c.in-Refused.is))
 
 pub returns : goal.returns
-returns c =
+returns-then-is_past_last-is_due c =
     rw c.in_default.is
     (outcome-passed _ _ _ c.store-next.result (taken (goal.at.returns c).After-store-arg-1) (sym (judged (goal.at.returns c).After-test_stored-verdict) ∙ c.in_default.is))

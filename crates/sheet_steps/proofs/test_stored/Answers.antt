@@ -8,7 +8,6 @@ use Rattle.netlist.specs.Faults.{size_fault, code_fault}
 use Rattle.netlist.proofs.Places.{at-sizes, at-memory, has-line_at}
 use Rattle.sheet_steps.specs.LineFaults.{faults_at}
 use Rattle.sheet_steps.proofs.Places.{no-size-from-3}
-use borrow.Author.Rules.{rules}
 use Rattle.refusals.specs.Tests.{◌then◌}
 use Rattle.sheet_steps.proofs.test_stored.Goals as goal
 
@@ -44,6 +43,6 @@ returns-then-code_fault c =
 
 pub returns : goal.returns
 unfolding faults_at ◌then◌
-returns c =
+returns-then-sizes_fault c =
     let late : size_fault (net_of c.args.net c.args.latches.now c.args.gates.now) c.args.due ≡ false = rw c.requires.1 (no-size-from-3 (net_of c.args.net c.args.latches.now c.args.gates.now) (alone c.args.net) c.args.place c.if-place-lt3.false) in
     rw (late, sym c.code_fault.ensures ∙ c.if-code_fault.false)

@@ -6,7 +6,6 @@ use native.Mathlib.Omega.{arith}
 use Rattle.netlist.specs.NetOf.{net_of}
 use Rattle.netlist.proofs.NetOf.{sizes-lists}
 use Rattle.sheet_tests.proofs.Verdicts.{end-missing, end_whole}
-use borrow.Author.Rules.{rules}
 use Rattle.sheet_tests.proofs.test_end.Goals as goal
 
 pub returns-then-count-lt3 : goal.returns-then-count-lt3
@@ -28,5 +27,5 @@ test_ports-requires c = c.requires.1.limits (omega (arith, c.control_line.ensure
 
 pub returns : goal.returns
 unfolding net_of
-returns c =
+returns-then-count-lt3 c =
     c.test_ports.ensures ∙ sym (end_whole (net_of c.args.net [] c.args.gates.now) c.args.count (omega (arith, c.control_line.ensures)))

@@ -12,7 +12,6 @@ use Rattle.sheet_parse.proofs.Files.{whole-lines}
 use Rattle.sheet_tests.specs.Sheet.{end_verdict, file_verdict}
 use Rattle.sheet_tests.proofs.LinesPassed.{lines-passed}
 use Rattle.sheet_tests.proofs.Verdicts.{end-latches, file-ragged, file-refused, file-lines}
-use borrow.Author.Rules.{rules}
 use Rattle.sheet_tests.proofs.test_file.Goals as goal
 use Rattle.sheet_tests.proofs.test_file.Goals.{After-test_end-ended, Else-is_ragged, In_default}
 
@@ -68,7 +67,7 @@ returns-in-Refused-ended c =
     rw c.refused-in-Refused-ended.ensures (outcome-refused _ _ (net_in file) (file-ended (goal.at.returns-in-Refused-ended c).After-test_end-ended ∙ c.in-Refused-ended.is))
 
 pub returns : goal.returns
-returns c =
+returns-then-is_ragged c =
     let file = c.args.file.now in
     let passed = file-ended (goal.at.returns c).After-test_end-ended ∙ c.in_default-ended.is in
     outcome-same (file_verdict file) (passed_lines (goal.at.returns c).In_default-1 ∙ sym passed) (λ _. refl) c.read_lines-sheet.ensures

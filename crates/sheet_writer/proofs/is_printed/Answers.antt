@@ -1,6 +1,5 @@
 -- `sheet_writer::is_printed` meets its contract: by the number that the table has for a column.
 
-use borrow.Author.Rules.{rules}
 use Rattle.sheet_writer.proofs.is_printed.Goals as goal
 
 pub returns : goal.returns

@@ -1,7 +1,6 @@
 -- `sheet_writer::printed_line` meets its contract: each arm knows its line, whose number is below its size.
 
 use native.Mathlib.Omega.{arith}
-use borrow.Author.Rules.{rules}
 use mathlib.Core.Path.{subst}
 use Rattle.netlist.specs.NetOf.{code_of, net_of, alone}
 use Rattle.netlist.specs.Places.{HasLine}

@@ -1,7 +1,6 @@
 -- `sheet_writer::put_line` meets its contract: the letter, three columns by the table, and the line feed, one behind the other.
 
 use native.Mathlib.Omega.{arith}
-use borrow.Author.Rules.{rules}
 use Rattle.model.proofs.Wrote.{wrote_then}
 use Rattle.sheet_lines.specs.Lines.{line_text}
 use Rattle.sheet_writer.specs.Printed.{printed_text}

@@ -1,6 +1,5 @@
 -- `sheet_writer::put_line_at` meets its contract: the line due is one that the record has.
 
-use borrow.Author.Rules.{rules}
 use Rattle.netlist.specs.NetOf.{alone}
 use Rattle.netlist.proofs.Places.{has-line_at}
 use Rattle.sheet_writer.proofs.Printed.{known-row, printed-due}

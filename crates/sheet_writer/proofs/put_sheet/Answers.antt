@@ -1,21 +1,17 @@
 -- `sheet_writer::put_sheet` meets its contract. The loop has written the lines up to the place.
 
-use Prim.Native.Nat.{ℕ, ◌+◌, ◌-◌, ◌*◌, ◌≤◌}
+use Prim.Native.Nat.{ℕ, ◌+◌, ◌-◌, ◌≤◌}
 use mathlib.Core.Path.{◌≡◌, refl, ◌∙◌}
 use mathlib.Core.List.{List}
 use native.Mathlib.Numerals.{add-one}
 use native.Mathlib.Omega.{arith}
-use borrow.Author.Rules.{rules}
 use borrow.Rule.Slice.PartMut.{mid_len, same_len_mid}
 use lib.ListN.{length}
 use Rattle.model.specs.Gather.{gather}
-use Rattle.model.specs.Wrote.{Wrote}
 use Rattle.model.proofs.Wrote.{wrote_then}
 use Rattle.netlist.specs.NetOf.{net_of, alone}
 use Rattle.netlist.specs.Places.{line_at}
-use Rattle.netlist.specs.declared.Netlist.{Netlist}
 use Rattle.call_unpacked.proofs.Calls.{lines-most}
-use Rattle.sheet_text.specs.PrintedAt.{printed_at}
 use Rattle.sheet_text.proofs.Placed.{placed}
 use Rattle.sheet_writer.proofs.put_sheet.Invariants.{line_behind}
 use Rattle.sheet_writer.proofs.put_sheet.Goals as goal
@@ -34,10 +30,10 @@ room c =
     omega (arith, c.loop-place.invariant.1, c.loop-place.invariant.2, c.control_line-last.ensures, c.requires.1)
 
 pub slice_bounds-put_line_at-count : goal.slice_bounds-put_line_at-count
-slice_bounds-put_line_at-count c = omega (arith, room (goal.at.slice_bounds-put_line_at-count c).In-loop-place)
+slice_bounds-put_line_at-count c = omega (arith, room c)
 
 pub slice_bounds-put_line_at-start : goal.slice_bounds-put_line_at-start
-slice_bounds-put_line_at-start c = omega (arith, room (goal.at.slice_bounds-put_line_at-start c).In-loop-place)
+slice_bounds-put_line_at-start c = omega (arith, room c)
 
 pub overflow_add-place : goal.overflow_add-place
 overflow_add-place c =

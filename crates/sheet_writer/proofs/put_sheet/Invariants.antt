@@ -1,22 +1,15 @@
 -- `sheet_writer::put_sheet` meets its contract. The loop has written the lines up to the place.
 
 use Prim.Native.Nat.{ℕ, ◌+◌, ◌-◌, ◌*◌, ◌≤◌}
-use mathlib.Core.Path.{◌≡◌, refl, ◌∙◌}
+use mathlib.Core.Path.{◌≡◌}
 use mathlib.Core.List.{List}
-use native.Mathlib.Numerals.{add-one}
-use native.Mathlib.Omega.{arith}
-use borrow.Author.Rules.{rules}
-use borrow.Rule.Slice.PartMut.{mid_len, same_len_mid}
 use lib.ListN.{length}
 use Rattle.model.specs.Gather.{gather}
 use Rattle.model.specs.Wrote.{Wrote}
-use Rattle.model.proofs.Wrote.{wrote_then}
 use Rattle.netlist.specs.NetOf.{net_of, alone}
 use Rattle.netlist.specs.Places.{line_at}
 use Rattle.netlist.specs.declared.Netlist.{Netlist}
-use Rattle.call_unpacked.proofs.Calls.{lines-most}
 use Rattle.sheet_text.specs.PrintedAt.{printed_at}
-use Rattle.sheet_text.proofs.Placed.{placed}
 use Rattle.sheet_writer.proofs.put_sheet.Given as goal
 
 -- the line behind the first p lines

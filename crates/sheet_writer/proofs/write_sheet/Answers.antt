@@ -3,7 +3,6 @@
 use mathlib.Core.Path.{◌≡◌, sym, ◌∙◌}
 use mathlib.Core.List.{[]}
 use native.Mathlib.Omega.{arith}
-use borrow.Author.Rules.{rules}
 use lib.ListN.{length}
 use Rattle.model.specs.Acceptance.{Accepted}
 use Rattle.refusals.specs.Tests.{◌then◌}
@@ -30,14 +29,14 @@ returns-in-Refused c =
 
 -- the record is accepted, its sizes fit, and so its sheet is so long
 module _ (c : In_default) where
-  passed : record_verdict (net_of c.args.net c.args.latches.now c.args.gates.now) c.args.latch-count c.args.gate-count ≡ Passed
+  passed : record_verdict (net_of c.args.net c.args.latches.now c.args.gates.now) c.args.latch_count c.args.gate_count ≡ Passed
   passed = sym c.test_record.ensures ∙ c.in_default.is
 
   accepted : let c.args = c.args in Accepted (net_of c.args.net c.args.latches.now c.args.gates.now)
   accepted = ((passes-accepted _ _ _).0 passed).0
 
 pub control_line-requires : goal.control_line-requires
-control_line-requires c = sizes-lists _ _ _ [] [] (accepted (goal.at.control_line-requires c).In_default).limits.sizes
+control_line-requires c = sizes-lists _ _ _ [] [] (accepted c).limits.sizes
 
 pub returns-then-out-control_line : goal.returns-then-out-control_line
 unfolding net_of print_reply write_sheet_verdict write_sent write_leaves with_count contents_after ◌then◌
@@ -52,7 +51,7 @@ put_sheet-requires c =
 
 pub returns : goal.returns
 unfolding net_of print_reply write_sheet_verdict write_sent write_leaves with_count contents_after ◌then◌
-returns c =
+returns-in-Refused c =
     let v = passed (goal.at.returns c).In_default in
     let w = c.put_sheet.ensures in
     let enough = room-enough (length (sheet_text (net_of c.args.net c.args.latches.now c.args.gates.now))) (length c.args.out.now) (omega (arith, length-sheet_text _ (accepted (goal.at.returns c).In_default).limits, c.if-out-control_line.false, c.control_line.ensures)) in

@@ -5,10 +5,8 @@ use mathlib.Core.Path.{◌≡◌, refl, ◌∙◌}
 use mathlib.Core.List.{List}
 use native.Mathlib.Numerals.{add-one}
 use native.Mathlib.Omega.{arith}
-use borrow.Author.Rules.{rules}
 use borrow.Rule.Slice.PartMut.{mid_len, same_len_mid}
 use lib.ListN.{length}
-use Rattle.model.specs.Wrote.{Wrote}
 use Rattle.model.proofs.Wrote.{wrote_then}
 use Rattle.text_writer.specs.Table.{four_digits, table_below}
 use Rattle.text_writer.proofs.Table.{length-table_below}
@@ -25,10 +23,10 @@ room c =
     omega (arith, c.loop-x.invariant.1, c.loop-x.invariant.2.counted, length-table_below c.loop-x.x, c.requires)
 
 pub slice_bounds-put_four_digits-count : goal.slice_bounds-put_four_digits-count
-slice_bounds-put_four_digits-count c = omega (arith, room (goal.at.slice_bounds-put_four_digits-count c).In-loop-x)
+slice_bounds-put_four_digits-count c = omega (arith, room c)
 
 pub slice_bounds-put_four_digits-start : goal.slice_bounds-put_four_digits-start
-slice_bounds-put_four_digits-start c = omega (arith, room (goal.at.slice_bounds-put_four_digits-start c).In-loop-x)
+slice_bounds-put_four_digits-start c = omega (arith, room c)
 
 pub put_four_digits-at-requires : goal.put_four_digits-at-requires
 put_four_digits-at-requires c =

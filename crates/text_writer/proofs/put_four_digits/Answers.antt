@@ -1,7 +1,6 @@
 -- `text_writer::put_four_digits` meets its contract: a pair, and then another into the rest.
 
 use Prim.Native.Nat.{◌/◌, ◌%◌}
-use borrow.Author.Rules.{rules}
 use Rattle.model.proofs.Wrote.{wrote_then}
 use Rattle.text_writer.specs.Table.{pair_digits}
 use Rattle.text_writer.proofs.put_four_digits.Goals as goal

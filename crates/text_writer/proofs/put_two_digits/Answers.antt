@@ -2,7 +2,6 @@
 
 use Prim.Native.Nat.{◌/◌, ◌%◌}
 use native.Mathlib.Omega.{arith}
-use borrow.Author.Rules.{rules}
 use Rattle.decimal.specs.Digits.{digit}
 use Rattle.text_writer.proofs.Writing.{wrote-two}
 use Rattle.text_writer.proofs.put_two_digits.Goals as goal

@@ -1,6 +1,5 @@
 -- `text_writer::write_byte` meets its contract.
 
-use borrow.Author.Rules.{rules}
 use Rattle.model.proofs.Wrote.{wrote_one}
 use Rattle.text_writer.proofs.write_byte.Goals as goal
 

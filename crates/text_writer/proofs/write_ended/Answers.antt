@@ -2,7 +2,6 @@
 
 use mathlib.Core.List.{[], ◌∷◌}
 use native.Mathlib.Omega.{arith}
-use borrow.Author.Rules.{rules}
 use Rattle.decimal.specs.Digits.{digits}
 use Rattle.model.proofs.Wrote.{wrote_then}
 use Rattle.text_writer.proofs.Writing.{front-room, behind-within, behind-room}
@@ -17,7 +16,7 @@ slice_bounds-write_byte-count c =
     behind-within (digits c.args.x) (c.args.byte ∷ []) c.args.out.now c.put_digits-count.new.out c.put_digits-count.result c.put_digits-count.ensures c.requires
 
 pub slice_bounds-write_byte-start : goal.slice_bounds-write_byte-start
-slice_bounds-write_byte-start c = omega (arith, sub-write-byte (goal.at.slice_bounds-write_byte-start c).After-slice_known-2-1)
+slice_bounds-write_byte-start c = omega (arith, slice_bounds-write_byte-count c)
 
 pub write_byte-requires : goal.write_byte-requires
 write_byte-requires c =
@@ -28,4 +27,4 @@ returns c =
     wrote_then (digits c.args.x) (c.args.byte ∷ []) c.args.out.now c.put_digits-count.new.out c.write_byte.new.out c.put_digits-count.result c.write_byte.result c.put_digits-count.ensures c.write_byte.ensures
 
 pub overflow_add-result : goal.overflow_add-result
-overflow_add-result c = omega (arith, (returns (goal.at.overflow_add-result c).After-slice_known-3-1).counted, c.requires)
+overflow_add-result c = omega (arith, (returns c).counted, c.requires)

@@ -1,7 +1,6 @@
 -- `text_writer::write_four` meets its contract: the four bytes come from the table.
 
 use native.Mathlib.Omega.{arith}
-use borrow.Author.Rules.{rules}
 use lib.ListN.{length-set}
 use Rattle.text_writer.proofs.Table.{length-table, wrote-four-by}
 use Rattle.text_writer.proofs.write_four.Goals as goal

@@ -4,7 +4,6 @@ use mathlib.Core.List.{[], ◌∷◌}
 use Rattle.decimal.specs.Digits.{space}
 use Rattle.model.proofs.Wrote.{wrote_then}
 use Rattle.text_writer.specs.Table.{four_digits}
-use borrow.Author.Rules.{rules}
 use Rattle.text_writer.proofs.write_four_spaced.Goals as goal
 
 pub returns : goal.returns

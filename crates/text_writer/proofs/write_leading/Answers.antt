@@ -8,7 +8,6 @@ use Rattle.decimal.specs.Digits.{digit}
 use Rattle.decimal.proofs.Digits.{digits-single, length-digits-some}
 use Rattle.model.proofs.Wrote.{wrote_one}
 use Rattle.text_writer.proofs.Table.{digits-pair, digits-three}
-use borrow.Author.Rules.{rules}
 use Rattle.text_writer.proofs.write_leading.Goals as goal
 
 pub bounds-out-0 : goal.bounds-out-0
@@ -33,4 +32,4 @@ write_three-requires c =
     (c.requires.0, omega arith, omega arith, omega (arith, ap length (digits-three c.args.x (omega arith) (omega arith))))
 
 pub returns : goal.returns
-returns c = c.write_three.ensures
+returns-then-x-lt10 c = c.write_three.ensures

@@ -11,7 +11,6 @@ use Rattle.model.proofs.Wrote.{wrote_then}
 use Rattle.text_writer.specs.Table.{four_digits}
 use Rattle.text_writer.proofs.Table.{digits-behind-four}
 use Rattle.text_writer.proofs.Writing.{front-room, behind-within, behind-room}
-use borrow.Author.Rules.{rules}
 use Rattle.text_writer.proofs.write_long_spaced.Goals as goal
 use Rattle.text_writer.proofs.write_long_spaced.Goals.{After-write_leading-first, Start}
 
@@ -39,7 +38,7 @@ slice_bounds-write_four_spaced-count c =
     behind-within (leading (goal.at.slice_bounds-write_four_spaced-count c).Start) (others (goal.at.slice_bounds-write_four_spaced-count c).Start) c.args.out.now c.write_leading-first.new.out c.write_leading-first.result (first (goal.at.slice_bounds-write_four_spaced-count c).After-write_leading-first) (room (goal.at.slice_bounds-write_four_spaced-count c).Start)
 
 pub slice_bounds-write_four_spaced-start : goal.slice_bounds-write_four_spaced-start
-slice_bounds-write_four_spaced-start c = omega (arith, sub-write-four-spaced (goal.at.slice_bounds-write_four_spaced-start c).After-slice_known-2-1)
+slice_bounds-write_four_spaced-start c = omega (arith, slice_bounds-write_four_spaced-count c)
 
 pub write_four_spaced-requires : goal.write_four_spaced-requires
 write_four_spaced-requires c =
@@ -54,4 +53,4 @@ returns c =
     (first (goal.at.returns c).After-write_leading-first) (rw low at c.write_four_spaced.ensures))
 
 pub overflow_add-result : goal.overflow_add-result
-overflow_add-result c = omega (arith, (returns (goal.at.overflow_add-result c).After-slice_known-3-1).counted, c.requires.3)
+overflow_add-result c = omega (arith, (returns c).counted, c.requires.3)

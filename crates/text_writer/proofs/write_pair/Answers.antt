@@ -1,7 +1,6 @@
 -- `text_writer::write_pair` meets its contract: both bytes come from the table.
 
 use native.Mathlib.Omega.{arith}
-use borrow.Author.Rules.{rules}
 use Rattle.text_writer.proofs.Table.{length-table, wrote-pair-by}
 use Rattle.text_writer.proofs.write_pair.Goals as goal
 

@@ -4,7 +4,6 @@ use Prim.Native.Nat.{ℕ, ◌+◌, ◌-◌, ◌≤◌}
 use mathlib.Core.Path.{◌≡◌, ap, ◌∙◌}
 use mathlib.Core.List.{List, [], ◌∷◌, ◌++◌}
 use native.Mathlib.Omega.{arith}
-use borrow.Author.Rules.{rules}
 use borrow.Rule.Slice.PartMut.{mid_len, same_len_mid}
 use lib.IntN.{ℤ}
 use lib.ListN.{length, length-append, set, length-set}
@@ -29,16 +28,16 @@ room c =
     (omega (arith, c.requires.1, length-parts z, length-append (signed_digits z) (space ∷ [])))
 
 pub overflow_add-first : goal.overflow_add-first
-overflow_add-first c = omega (arith, room (goal.at.overflow_add-first c).After-parts_of-parts)
+overflow_add-first c = omega (arith, room c)
 
 pub bounds-out-at : goal.bounds-out-at
-bounds-out-at c = omega (arith, room (goal.at.bounds-out-at c).After-parts_of-parts, length-append (digits c.parts_of-parts.result.value) (space ∷ []))
+bounds-out-at c = omega (arith, room c, length-append (digits c.parts_of-parts.result.value) (space ∷ []))
 
 pub slice_bounds-write_spaced-count : goal.slice_bounds-write_spaced-count
-slice_bounds-write_spaced-count c = simp length-set (omega (arith, room (goal.at.slice_bounds-write_spaced-count c).After-parts_of-parts))
+slice_bounds-write_spaced-count c = simp length-set (omega (arith, room c))
 
 pub slice_bounds-write_spaced-start : goal.slice_bounds-write_spaced-start
-slice_bounds-write_spaced-start c = simp length-set (omega (arith, room (goal.at.slice_bounds-write_spaced-start c).After-parts_of-parts))
+slice_bounds-write_spaced-start c = simp length-set (omega (arith, room c))
 
 pub write_spaced-requires : goal.write_spaced-requires
 write_spaced-requires c =
@@ -59,4 +58,4 @@ shape_of-out c =
 pub returns : goal.returns
 returns c =
     rw (parts_are (goal.at.returns c).After-parts_of-parts)
-    (wrote-signed c.args.z (space ∷ []) c.args.out.now c.write_spaced.new.out c.args.at c.write_spaced.result (slice-write-out (goal.at.returns c).After-parts_of-parts) (rw (parts_are (goal.at.returns c).After-parts_of-parts) (goal.at.returns c).After-parts_of-parts c.write_spaced.ensures))
+    (wrote-signed c.args.z (space ∷ []) c.args.out.now c.write_spaced.new.out c.args.at c.write_spaced.result (bounds-out-at (goal.at.returns c).After-parts_of-parts) (rw (parts_are (goal.at.returns c).After-parts_of-parts) (goal.at.returns c).After-parts_of-parts c.write_spaced.ensures))

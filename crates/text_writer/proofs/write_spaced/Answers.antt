@@ -1,7 +1,6 @@
 -- `text_writer::write_spaced` meets its contract: a slice as long as the table is the table.
 
 use native.Mathlib.Omega.{arith}
-use borrow.Author.Rules.{rules}
 use Rattle.text_writer.proofs.write_spaced.Goals as goal
 
 pub write_by_table-requires : goal.write_by_table-requires

@@ -1,7 +1,6 @@
 -- `text_writer::write_three` meets its contract: the three bytes come from the table.
 
 use native.Mathlib.Omega.{arith}
-use borrow.Author.Rules.{rules}
 use lib.ListN.{length-set}
 use Rattle.text_writer.proofs.Table.{length-table, wrote-three-by}
 use Rattle.text_writer.proofs.write_three.Goals as goal
