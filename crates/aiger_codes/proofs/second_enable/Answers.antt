@@ -14,4 +14,4 @@ returns-then-net-gt0 c =
     (c.code_of.ensures ∙ output-at c.args.table.now (net.m + net.n + net.m) _ (omega arith))
 
 pub returns : goal.returns
-returns-then-net-gt0 c = rw (le-ltb 0 c.args.net.second_port c.if-net-gt0.false)
+returns c = rw (le-ltb 0 c.args.net.second_port c.if-net-gt0.false)

@@ -32,5 +32,5 @@ loop-w-preserved c =
     (omega arith, not-before-next c.args.table.now c.args.variable c.loop-w.w c.loop-w.invariant.1 c.if-table-at.false)
 
 pub returns : goal.returns
-returns-then-table-at c =
+returns c =
     (found_at c.args.table.now c.args.variable c.loop-w.w (omega arith) c.loop-w.invariant.1 (λ l. absurd (omega arith)), omega arith)

@@ -8,4 +8,4 @@ pub returns-then-sound-eq0 : goal.returns-then-sound-eq0
 returns-then-sound-eq0 c = record { within = omega arith; none_before = λ q l. absurd (omega arith); holds-there = λ l. absurd (omega arith) }
 
 pub returns : goal.returns
-returns-then-sound-eq0 c = again-first c.args.text.now c.args.sound c.first_fault.result c.first_fault.ensures
+returns c = again-first c.args.text.now c.args.sound c.first_fault.result c.first_fault.ensures

@@ -14,4 +14,4 @@ returns-then-marks-x c = rw (le-leb _ _ c.if-v-base.false, le-ltb _ _ c.if-marks
 
 pub returns : goal.returns
 unfolding is_found
-returns-then-v-base c = rw (le-leb _ _ c.if-v-base.false, lt-ltb _ _ c.if-marks-x.false)
+returns c = rw (le-leb _ _ c.if-v-base.false, lt-ltb _ _ c.if-marks-x.false)

@@ -18,4 +18,4 @@ returns-then-v-next c = rw (le-leb _ _ c.if-v-base.false, le-leb _ _ c.if-v-base
 
 pub returns : goal.returns
 unfolding nearest
-returns-then-v-base c = rw (le-leb _ _ c.if-v-base.false, le-leb _ _ c.if-v-base-2.false, le-ltb _ _ c.if-v-next.false)
+returns c = rw (le-leb _ _ c.if-v-base.false, le-leb _ _ c.if-v-base-2.false, le-ltb _ _ c.if-v-next.false)

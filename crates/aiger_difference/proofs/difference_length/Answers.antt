@@ -14,4 +14,4 @@ pub overflow_sub-result : goal.overflow_sub-result
 overflow_sub-result c = omega (arith, leading_le 32 c.args.x)
 
 pub returns : goal.returns
-returns-then-x-eq0 c = sym (zeros-bytes c.args.x (omega arith) c.ranges.x.fits)
+returns c = sym (zeros-bytes c.args.x (omega arith) c.ranges.x.fits)

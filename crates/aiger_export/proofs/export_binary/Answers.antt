@@ -61,7 +61,7 @@ write_word-requires c =
 
 pub returns : goal.returns
 unfolding print_reply export_verdict export_sent export_leaves with_count contents_after ◌then◌
-returns-in-Refused c =
+returns c =
     let v = passed (goal.at.returns c).In_default in
     let w = c.put_file-count.ensures.0 in
     let x = rw (wrote-front w) at c.write_word.ensures in

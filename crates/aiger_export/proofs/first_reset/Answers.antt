@@ -52,7 +52,7 @@ loop-l-preserved c =
     )
 
 pub returns : goal.returns
-returns-then-latches-at-eq1 c =
+returns c =
     let all : c.loop-l.l ≡ c.args.count = omega arith in
     first-unique
     (record { within = omega arith; none_before = rw all at c.loop-l.invariant.1; holds-there = λ l. absurd (omega arith) })

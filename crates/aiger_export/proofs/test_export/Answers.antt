@@ -45,5 +45,5 @@ returns-then-l-net c =
 
 pub returns : goal.returns
 unfolding net_of test_export test_resets ◌then◌
-returns-in-Refused c =
+returns c =
     rw (passed (goal.at.returns c).In_default, le-ltb 0 _ c.if-net-gt0.false, ← c.first_reset-l.ensures, le-ltb _ _ c.if-l-net.false)

@@ -107,7 +107,7 @@ returns-then-latch_room-net c =
     (room-refused c.args.text.now c.args.m c.args.n (imported_word c.args.word c.args.unknown) c.args.unknown c.args.second_port c.args.latch_room c.args.gate_room text sized port (sym short ∙ c.if-latch_room-net.true)))
 
 pub returns : goal.returns
-returns-in-Refused c =
+returns c =
     let text = text-passed (goal.at.returns c).In_default in
     let sized = sizes-passed (goal.at.returns c).In_default-sized-1 in
     let port = port-judged (goal.at.returns c).After-test_ports-port ∙ c.in_default-port.is in

@@ -15,4 +15,4 @@ pub returns-then-w-latch-3 : goal.returns-then-w-latch-3
 returns-then-w-latch-3 c = (sym (read-moved c.args.order c.args.wire.0 (omega arith) (omega arith)), omega arith)
 
 pub returns : goal.returns
-returns-then-w-latch c = (sym (gate-kept c.args.order c.args.wire.0 (omega arith)), omega arith)
+returns c = (sym (gate-kept c.args.order c.args.wire.0 (omega arith)), omega arith)

@@ -61,7 +61,7 @@ returns-then-output-control-3 c =
 
 pub returns : goal.returns
 unfolding net_of code_of output_of
-returns-then-output-data c =
+returns c =
     let control = control_output c.args.net.m c.args.net.n c.args.net.second_port in
     let single = none c.args.net c.requires.2 in
     rw (

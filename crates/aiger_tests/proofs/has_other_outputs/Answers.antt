@@ -19,7 +19,7 @@ overflow_mul-second c =
     omega arith
 
 pub returns : goal.returns
-returns-then-found-single c =
+returns c =
     let due = control_output c.args.m c.args.n c.args.second_port + 3 in
     let found = c.args.outputs - (c.args.m + c.args.n + 3) in
     let second = c.args.second_port * (c.args.m + 1) in

@@ -51,6 +51,6 @@ returns-then-undefined-due c =
     (sym (faced (goal.at.returns-then-undefined-due c).After-has_wrong_interface) ∙ c.if-has_wrong_interface.false) c.first_undefined-undefined.ensures (omega (arith, due (goal.at.returns-then-undefined-due c).After-lines_due-due))))
 
 pub returns : goal.returns
-returns-then-first-due c =
+returns c =
     sym (passed c.args.text.now c.args.m c.args.n c.args.second_port c.sound_lines-sound.ensures c.first_repeat-first.ensures (aiger (goal.at.returns c).Else-first-due)
     (sym (faced (goal.at.returns c).After-has_wrong_interface) ∙ c.if-has_wrong_interface.false) c.first_undefined-undefined.ensures (omega (arith, due (goal.at.returns c).After-lines_due-due)))

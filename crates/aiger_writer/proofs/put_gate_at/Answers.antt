@@ -36,7 +36,7 @@ put_gate-requires-2 c =
     (omega (arith, c.requires.0), left_below (goal.at.put_gate-requires-2 c).After-file_code-right, omega (arith, c.if-left-right.false), c.requires.3)
 
 pub returns : goal.returns
-returns-then-left-right c =
+returns c =
     let larger : max c.file_code-left.result.0 c.file_code-right.result.0 ≡ c.file_code-left.result.0 = omega (arith, c.if-left-right.false) in
     let smaller : min c.file_code-left.result.0 c.file_code-right.result.0 ≡ c.file_code-right.result.0 = omega (arith, c.if-left-right.false) in
     rw (← c.file_code-left.ensures.0, ← c.file_code-right.ensures.0, larger, smaller) c.put_gate-2.ensures

@@ -9,4 +9,4 @@ pub returns-then-line-gt0 : goal.returns-then-line-gt0
 returns-then-line-gt0 c = sym (comment-first c.args.line.now (omega arith))
 
 pub returns : goal.returns
-returns-then-line-gt0 c = sym (comment-empty c.args.line.now (omega arith))
+returns c = sym (comment-empty c.args.line.now (omega arith))

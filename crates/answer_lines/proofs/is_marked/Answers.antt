@@ -12,4 +12,4 @@ pub returns-then-line-gt1 : goal.returns-then-line-gt1
 returns-then-line-gt1 c = sym (marked_other c.args.line.now c.if-line-eq118.false)
 
 pub returns : goal.returns
-returns-then-line-eq118 c = sym (marked-short c.args.line.now (omega arith))
+returns c = sym (marked-short c.args.line.now (omega arith))

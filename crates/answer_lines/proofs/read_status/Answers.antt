@@ -14,4 +14,4 @@ returns-then-same_text-2 c = sym (rw (sym c.same_text.ensures ∙ c.if-same_text
 
 pub returns : goal.returns
 unfolding status_in
-returns-then-same_text c = sym (rw (sym c.same_text.ensures ∙ c.if-same_text.false, sym c.same_text-2.ensures ∙ c.if-same_text-2.false))
+returns c = sym (rw (sym c.same_text.ensures ∙ c.if-same_text.false, sym c.same_text-2.ensures ∙ c.if-same_text-2.false))

@@ -25,7 +25,7 @@ mark-requires c =
     rw (read_back c.in-Value.z (word_fits word c.in-Value.z e)) (omega (arith, eqb-false (nat_abs c.in-Value.z) 0 (word-nonzero c.in-Value.z c.if-z-eq0.false)))
 
 pub returns : goal.returns
-returns-in_default c =
+returns c =
     let word = c.args.word.now in
     let e = sym c.read_clause_number.ensures ∙ c.in-Value.is in
     number-some c.in-Value.z e (word-nonzero c.in-Value.z c.if-z-eq0.false) (rw (read_back c.in-Value.z (word_fits word c.in-Value.z e)) at c.mark.ensures)

@@ -38,4 +38,4 @@ returns-then-text-other c =
     sym (same_end c.args.text.now c.args.other.now c.loop-i.i (omega arith) (omega arith)) ∙ c.loop-i.invariant.2
 
 pub returns : goal.returns
-returns-else-text-i c = sym (same-lengths c.args.text.now c.args.other.now c.if-text-other.false)
+returns c = sym (same-lengths c.args.text.now c.args.other.now c.if-text-other.false)

@@ -30,5 +30,5 @@ returns-then-is_values c =
     (number-malformed begun c.requires.0 c.requires.1 (rw part at c.read_value-read.ensures) (sym c.is_values-then-is_values.ensures ∙ c.if-is_values-2.false))
 
 pub returns : goal.returns
-returns-then-is_values-2 c =
+returns c =
     number-elsewhere c.args.begun.now c.requires.0 c.args.progress (sym c.is_values.ensures ∙ c.if-is_values.false)

@@ -12,7 +12,7 @@ returns-then-count-lt16 c =
     let byte = c.args.byte in record { holds = byte-holds at line byte c.requires.0 c.requires.1 (omega arith); passed = byte-added at line byte c.requires.0 c.requires.1 (omega arith) }
 
 pub returns : goal.returns
-returns-then-count-lt16 c =
+returns c =
     let at = c.args.at in
     let line = c.args.line.now in
     let byte = c.args.byte in record { holds = holds-short (record { progress = Malformed; count = 0 }) c.requires.0 (omega arith); passed = byte-too-many at line byte c.requires.0 c.requires.1 (omega arith) }

@@ -67,4 +67,4 @@ put_byte-requires-2 c =
     )
 
 pub returns : goal.returns
-returns-then-byte-eq10 c = record { holds = c.put_byte-2.ensures.holds; taken = passed-taken c.put_byte-2.ensures.passed }
+returns c = record { holds = c.put_byte-2.ensures.holds; taken = passed-taken c.put_byte-2.ensures.passed }

@@ -14,4 +14,4 @@ returns-then-v-lt1198082 c = record { truth = sym (rw (lt-ltb c.args.variable 11
 
 pub returns : goal.returns
 unfolding true_in odd
-returns-then-v-lt1198082 c = record { truth = sym (rw (le-ltb c.args.variable 1198082 (omega arith))); table = table-tells }
+returns c = record { truth = sym (rw (le-ltb c.args.variable 1198082 (omega arith))); table = table-tells }

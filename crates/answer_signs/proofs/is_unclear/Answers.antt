@@ -19,4 +19,4 @@ returns-then-v-lt1198082 c =
 
 pub returns : goal.returns
 unfolding unclear_in
-returns-then-entry-eq0 c = sym (rw (le-ltb c.args.variable 1198082 (omega arith)))
+returns c = sym (rw (le-ltb c.args.variable 1198082 (omega arith)))

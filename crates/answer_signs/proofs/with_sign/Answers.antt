@@ -24,5 +24,5 @@ returns-then-entry-lt2 c =
 
 pub returns : goal.returns
 unfolding with_sign
-returns-then-entry-eq0 c =
+returns c =
     rw (ne_eqb c.args.sign 0 (λ h. omega arith), le-ltb c.args.entry 2 (omega arith)) (omega arith)

@@ -49,6 +49,6 @@ write_tested-requires c = group-shown _ _ _ _ _ (sym c.test_group.ensures ∙ c.
 
 pub returns : goal.returns
 unfolding group_at_sent group_at_leaves ◌then◌
-returns-in-Refused c =
+returns c =
     let v = rw c.in_default-test_frame.is at (tested (goal.at.returns c).After-test_frame (length c.args.out.now)) in
     record { answer = rw v c.write_tested.ensures.answer; borrowed = rw v c.write_tested.ensures.borrowed }

@@ -19,7 +19,7 @@ in_frame-requires c =
 
 pub returns : goal.returns
 unfolding literal_sent with_literal
-returns-in-Refused c =
+returns c =
     let passed = sym c.test_literal.ensures ∙ c.in_default.is in
     let shown = literal-shown _ _ _ passed in
     sent-negated _ _ _ (rw (c.answer_literal.ensures, c.in_frame.ensures.literal, passed, shown.2))

@@ -51,6 +51,6 @@ moved-requires c = ((shown (goal.at.moved-requires c).In_default).0, (shown (goa
 
 pub returns : goal.returns
 unfolding move_sent with_position
-returns-in-Refused c =
+returns c =
     let e = tested (goal.at.returns c).After-test_move in
     rw (c.moved.ensures, c.move_of-way.ensures, e ∙ c.in_default-test_move.is, moved_to-lists c.args.net c.args.latches.now c.args.gates.now c.args.position (move_of c.args.way))

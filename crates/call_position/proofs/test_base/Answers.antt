@@ -14,5 +14,5 @@ returns-then-position-frame_base c =
 
 pub returns : goal.returns
 unfolding test_base
-returns-then-position-frame_base c =
+returns c =
     rw (ne_eqb c.args.position.base (base (alone c.args.net) c.args.position.frame) (λ e. c.if-position-frame_base.false (e ∙ sym c.frame_base.ensures)))

@@ -38,4 +38,4 @@ pub returns-then-is_above : goal.returns-then-is_above
 returns-then-is_above c = sym (left (goal.at.returns-then-is_above c).After-is_above ∙ rw c.if-is_above.true)
 
 pub returns : goal.returns
-returns-in-Refused c = sym (left (goal.at.returns c).After-is_above ∙ rw c.if-is_above.false)
+returns c = sym (left (goal.at.returns c).After-is_above ∙ rw c.if-is_above.false)

@@ -13,4 +13,4 @@ returns-then-position c = let p = c.args.position in rw (lt-ltb p.depth (p.frame
 
 pub returns : goal.returns
 unfolding test_frame ◌then◌
-returns-then-position c = let p = c.args.position in rw (le-ltb p.depth (p.frame + 1) (omega (arith, c.if-position.false))) c.test_base.ensures
+returns c = let p = c.args.position in rw (le-ltb p.depth (p.frame + 1) (omega (arith, c.if-position.false))) c.test_base.ensures

@@ -20,5 +20,5 @@ returns-then-depth-gt255 c =
 
 pub returns : goal.returns
 unfolding numbering_verdict ◌then◌ test_depth
-returns-in-Refused c =
+returns c =
     rw (sym c.test_sizes-sizes.ensures ∙ c.in_default.is, le-ltb 255 _ c.if-depth-gt255.false)

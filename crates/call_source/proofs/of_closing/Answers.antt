@@ -39,7 +39,7 @@ of_pair-requires c =
 
 pub returns : goal.returns
 unfolding source_in closing_literals
-returns-then-i-eq0 c =
+returns c =
     let later = c.if-i-eq0.false in
     rw (none_since-earlier (alone c.args.net) (port (alone c.args.net) c.args.number) 0 c.args.i (omega arith))
     (rw c.port_of-port.ensures at c.of_pair.ensures)

@@ -16,5 +16,5 @@ source_in-requires c = source-shown _ _ _ (sym c.test_source.ensures ∙ c.in_de
 
 pub returns : goal.returns
 unfolding source_sent with_literal
-returns-in-Refused c =
+returns c =
     rw (c.answer_literal.ensures, c.source_in.ensures.literal, sym c.test_source.ensures ∙ c.in_default.is)

@@ -33,5 +33,5 @@ clause_count-requires c = shown (goal.at.clause_count-requires c).In_default
 
 pub returns : goal.returns
 unfolding heading_reply with_heading heading_sent heading_verdict
-returns-in-Refused c =
+returns c =
     rw (sym c.test_depth.ensures ∙ c.in_default.is, c.frame_base-variables.ensures ∙ base-lists c.args.net c.args.latches.now c.args.gates.now (c.args.depth + 1), c.clause_count.ensures)

@@ -18,4 +18,4 @@ returns-then-depth-gt255 c = rw (sym c.test_record-record.ensures ∙ c.in_defau
 
 pub returns : goal.returns
 unfolding ◌then◌ test_depth
-returns-in-Refused c = rw (sym c.test_record-record.ensures ∙ c.in_default.is, le-ltb 255 _ c.if-depth-gt255.false)
+returns c = rw (sym c.test_record-record.ensures ∙ c.in_default.is, le-ltb 255 _ c.if-depth-gt255.false)

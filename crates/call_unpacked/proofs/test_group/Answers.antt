@@ -45,7 +45,7 @@ returns-then-not-is_in_depth c =
 
 pub returns : goal.returns
 unfolding test_group net_of
-returns-in-Refused c =
+returns c =
     let there = rw c.port_count.ensures at c.is_in_depth.ensures in
     let e : test_group (net_of c.args.net c.args.latches.now c.args.gates.now) c.args.depth c.args.group ≡ Passed = rw (sym there ∙ not-false _ c.if-not-is_in_depth.false) in
     sym e ∙ asked (goal.at.returns c).In_default

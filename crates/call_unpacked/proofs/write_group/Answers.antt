@@ -19,6 +19,6 @@ write_tested-requires c = group-shown _ _ _ _ _ (sym c.test_group.ensures ∙ c.
 
 pub returns : goal.returns
 unfolding group_sent group_leaves ◌then◌
-returns-in-Refused c =
+returns c =
     let v = group-tested _ _ _ _ _ (length c.args.out.now) (sym c.in_default.is ∙ c.test_group.ensures) in
     record { answer = rw v c.write_tested.ensures.answer; borrowed = rw v c.write_tested.ensures.borrowed }

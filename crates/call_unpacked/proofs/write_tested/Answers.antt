@@ -62,7 +62,7 @@ copy_numbers-requires c =
 
 pub returns : goal.returns
 unfolding group_reply with_count contents_after
-returns-then-out-ge5992 c =
+returns c =
     let w = c.put_group-count.ensures.0 in
     let x = rw (wrote-front w) at c.copy_numbers.ensures in
     let v = room-enough (length (numbers_of (net_of c.args.net c.args.latches.now c.args.gates.now) c.args.depth c.args.group)) (length c.args.out.now) (omega (arith, c.if-out-count.false, w.counted)) in

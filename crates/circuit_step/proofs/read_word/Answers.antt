@@ -39,7 +39,7 @@ overflow_shr-own c = omega (arith, first-read-most (alone c.args.net) c.args.por
 
 pub returns : goal.returns
 unfolding net_of
-returns-then-is_reading c =
+returns c =
     let first = (c.args.port_number - 1) * c.args.net.n in
     λ t h. rw (read_data-port (alone c.args.net) c.args.port_number c.requires.2 _ (entry c.args.values.now) t h, sym c.is_reading.ensures ∙ c.if-is_reading.false)
     (bit-mod (c.args.held / 2 ^ first) 32 t (omega (arith, h, c.requires.0.sizes.n-most)) ∙ bit-div c.args.held first t)

@@ -34,7 +34,7 @@ two_words-requires c = c.requires.0.sizes.n-most
 
 pub returns : goal.returns
 unfolding net_of
-returns-then-net-eq0 c =
+returns c =
     let d = alone c.args.net in
     let read : ℕ → _ = read_data d (state_in [] c.args.memory.now c.args.held) (entry c.args.values.now) in
     each-bit d (λ x. bit c.two_words.result x ≡ read x)

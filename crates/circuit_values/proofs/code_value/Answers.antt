@@ -10,4 +10,4 @@ returns-then-is_inverted c = rw (c.wire_index.ensures, sym c.is_inverted.ensures
 
 pub returns : goal.returns
 unfolding code_value
-returns-then-is_inverted c = rw (c.wire_index.ensures, sym c.is_inverted.ensures ∙ c.if-is_inverted.false)
+returns c = rw (c.wire_index.ensures, sym c.is_inverted.ensures ∙ c.if-is_inverted.false)

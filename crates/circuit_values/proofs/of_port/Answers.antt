@@ -7,4 +7,4 @@ pub returns-then-number-eq1 : goal.returns-then-number-eq1
 returns-then-number-eq1 c = rw (eq-eqb _ 1 c.if-number-eq1.true)
 
 pub returns : goal.returns
-returns-then-number-eq1 c = rw (ne_eqb _ 1 c.if-number-eq1.false)
+returns c = rw (ne_eqb _ 1 c.if-number-eq1.false)

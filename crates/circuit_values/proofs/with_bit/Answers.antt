@@ -13,5 +13,5 @@ returns-then-value c =
     rw (bit_shifted _ c.requires.0, c.if-value.true)
 
 pub returns : goal.returns
-returns-then-value c =
+returns c =
     rw c.if-value.false (omega arith)

@@ -18,4 +18,4 @@ returns-then-is_number c =
     rw (c.number.ensures.literal, c.number-then-is_number.ensures.literal, c.number-then-is_number-2.ensures.literal) at c.put_same_numbers.ensures
 
 pub returns : goal.returns
-returns-then-is_number c = c.put_same_terms.ensures
+returns c = c.put_same_terms.ensures

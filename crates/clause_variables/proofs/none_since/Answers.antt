@@ -40,7 +40,7 @@ in_pair-requires c =
 
 pub returns : goal.returns
 unfolding net_of
-returns-then-j-i c =
+returns c =
     let earlier = c.if-j-i.false in
     rw (none_since-earlier (alone c.args.net) (port_of c.args.port) c.args.j c.args.i (omega arith))
     (record { literal = c.in_pair.ensures.literal ∙ behind-bits (alone c.args.net) (port_of c.args.port) c.args.j c.args.i _ 3 c.pair_base.ensures; number = c.in_pair.ensures.number })

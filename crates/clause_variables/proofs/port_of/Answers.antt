@@ -17,7 +17,7 @@ overflow_add-result c = omega arith
 
 pub returns : goal.returns
 unfolding port_of net_of
-returns-then-number-eq1 c =
+returns c =
     let here = c.requires in
     let other = c.if-number-eq1.false in
     let last : c.args.number ≡ 2 = omega (arith, here.0.kind_fits, here.1.0, here.1.1, other) in

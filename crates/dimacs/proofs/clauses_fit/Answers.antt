@@ -57,7 +57,7 @@ loop-i-preserved c =
     (omega arith, rw (add-one c.loop-i.i, clause_text-next numbers c.loop-i.i (omega arith), length-append (clause_text (take c.loop-i.i numbers)) text) (omega (arith, need (goal.at.loop-i-preserved c).After-number_length-need, c.loop-i.invariant.1)))
 
 pub returns : goal.returns
-returns-then-remaining-need c =
+returns c =
     let numbers : List ℤ = c.args.numbers.now in
     let all : length (clause_text (take c.loop-i.i numbers)) ≡ length (clause_text numbers) =
     ap (λ (zs : List ℤ). length (clause_text zs)) (take_all c.loop-i.i numbers (omega arith)) in

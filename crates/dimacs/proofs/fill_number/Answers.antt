@@ -54,7 +54,7 @@ overflow_add-result c =
     omega (arith, parts-length (goal.at.overflow_add-result c).After-parts_of-parts, c.fill_digits-count.ensures.counted, length-signed_digits c.args.z c.ranges.z)
 
 pub returns : goal.returns
-returns-then-parts-eq0 c =
+returns c =
     let e = sym (parts_are (goal.at.returns c).After-parts_of-parts) in
     let sign-is : (parts_of c.args.z).sign ≡ c.parts_of-parts.result.sign = ap (λ (p : Parts). p.sign) e in
     let some : 0 < (parts_of c.args.z).sign = omega (arith, sign-is, c.if-parts-eq0.false) in

@@ -16,7 +16,7 @@ returns-then-room-ge11 c =
     sym (le-leb (length (signed_digits c.args.z)) c.args.room (omega (arith, length-signed_digits c.args.z c.ranges.z)))
 
 pub returns : goal.returns
-returns-then-room-ge11 c =
+returns c =
     let counted : c.number_length.result ≡ length (signed_digits c.args.z) =
     c.number_length.ensures.0 ∙ ap (λ (z : ℤ). length (signed_digits z)) (read_back c.args.z c.ranges.z) in
     ap (λ (n : ℕ). leb n c.args.room) counted

@@ -23,7 +23,7 @@ returns-then-clauses_fit c =
     (put.0, (put.1, other-numbers))
 
 pub returns : goal.returns
-returns-then-clauses_fit c =
+returns c =
     let kept = not_written (clause_text c.args.numbers.now) c.args.out.now
     (leb-false (length (clause_text c.args.numbers.now)) (length c.args.out.now) (sym c.clauses_fit.ensures ∙ c.if-clauses_fit.false)) in
     (kept.0, (kept.1, other-numbers))

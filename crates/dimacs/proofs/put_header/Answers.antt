@@ -26,5 +26,5 @@ write_header-requires c =
     omega (arith, length-header_text c.args.variables c.args.clauses)
 
 pub returns : goal.returns
-returns-then-out-digit_count c =
+returns c =
     written (header_text c.args.variables c.args.clauses) c.args.out.now c.write_header.new.out c.write_header.result c.write_header.auto.0 c.write_header.ensures

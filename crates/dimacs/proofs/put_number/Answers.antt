@@ -24,7 +24,7 @@ returns-then-number_fits c =
     (put.0, (put.1, number-printed))
 
 pub returns : goal.returns
-returns-then-number_fits c =
+returns c =
     let z : ℤ = c.args.z in
     let short = sym c.number_fits.ensures ∙ c.if-number_fits.false in
     let kept = not-filled (signed_digits z) c.args.out.now

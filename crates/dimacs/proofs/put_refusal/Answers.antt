@@ -16,5 +16,5 @@ write_refusal-requires c =
     omega (arith, length-refusal_text c.args.number c.args.place c.ranges.number.fits c.ranges.place.fits)
 
 pub returns : goal.returns
-returns-then-out-lt28 c =
+returns c =
     written (refusal_text c.args.number c.args.place) c.args.out.now c.write_refusal.new.out c.write_refusal.result c.write_refusal.auto.0 c.write_refusal.ensures

@@ -43,5 +43,5 @@ write_signed_spaced-requires c =
     (c.requires.0, rw (read_back c.args.z c.ranges.z) (rw (spaced (goal.at.write_signed_spaced-requires c).Else-z-eq0) at c.requires.1))
 
 pub returns : goal.returns
-returns-then-z-eq0 c =
+returns c =
     rw (spaced (goal.at.returns c).Else-z-eq0) (rw (read_back c.args.z c.ranges.z) at c.write_signed_spaced.ensures)

@@ -14,6 +14,6 @@ pub put_held_reads-requires : goal.put_held_reads-requires
 put_held_reads-requires c = search (rules, room-later)
 
 pub returns : goal.returns
-returns-then-i-eq0 c =
+returns c =
     let later = c.if-i-eq0.false in
     rw (held-later _ _ _ later, ne_eqb _ 0 later) c.put_held_reads.ensures

@@ -17,6 +17,6 @@ returns-then-net-eq0 c =
     rw (initial-given _ _ _ _ given, given-whole _ _ _ given) (w.0, omega (arith, w.1))
 
 pub returns : goal.returns
-returns-then-net-eq0 c =
+returns c =
     let unknown = c.if-net-eq0.false in
     rw (initial-unknown _ _ _ _ unknown, unknown-nothing _ _ _ unknown) (wrote_nothing _, omega arith)

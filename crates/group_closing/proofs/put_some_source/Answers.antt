@@ -26,6 +26,6 @@ put_source_clause-requires c = (search rules, search rules, search rules, search
 
 pub returns : goal.returns
 unfolding some_source closing_literals port_of
-returns-then-is_true c =
+returns c =
     let re = rw c.frame_base.ensures at c.in_frame-read_enable.ensures.literal in
     rw (c.negated-idle.ensures.literal, re, c.none_since-none_since.ensures.literal) at c.put_source_clause.ensures

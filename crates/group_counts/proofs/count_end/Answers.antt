@@ -9,4 +9,4 @@ pub returns-then-z-eq0 : goal.returns-then-z-eq0
 returns-then-z-eq0 c = (sym (ends-mark c.args.z c.ranges.z c.if-z-eq0.true), omega arith)
 
 pub returns : goal.returns
-returns-then-z-eq0 c = (sym (ends-other c.args.z c.if-z-eq0.false), omega arith)
+returns c = (sym (ends-other c.args.z c.if-z-eq0.false), omega arith)

@@ -23,7 +23,7 @@ count_group-requires c =
     (p.0, omega arith, (pair-in_depth _ 255 _ _ 2).1 (p.2, p.1, second-there _ _ _ c.if-net-eq0.false), search rules)
 
 pub returns : goal.returns
-returns-then-net-eq0 c =
+returns c =
     let first = c.count_group-first.ensures in
     let second = c.count_group.ensures in
     record { value = (count-both _ _ _ (Pair c.args.j c.args.i) _ _ c.if-net-eq0.false first.0.0 second.0.0, omega (arith, first.0.1, second.0.1)); scratch = search rules }

@@ -8,5 +8,5 @@ returns-then-reset-eq1 c =
     rw (eq-eqb _ 1 c.if-reset-eq1.true) (rw c.in_frame-own.ensures.literal at c.put_unit.ensures)
 
 pub returns : goal.returns
-returns-then-reset-eq1 c =
+returns c =
     rw (ne_eqb _ 1 c.if-reset-eq1.false) (rw (c.negated.ensures.literal, c.in_frame-own.ensures.literal) at c.put_unit-2.ensures)

@@ -16,7 +16,7 @@ pub put_agreed_reads-requires : goal.put_agreed_reads-requires
 put_agreed_reads-requires c = search (rules, room-unknown)
 
 pub returns : goal.returns
-returns-then-net-eq0 c =
+returns c =
     let unknown = c.if-net-eq0.false in
     let w = c.put_agreed_reads.ensures in
     rw (agreed-unknown _ _ _ _ unknown, unknown-whole _ _ _ unknown) (w.0, omega (arith, w.1))

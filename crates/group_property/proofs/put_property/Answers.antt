@@ -17,7 +17,7 @@ returns-then-is_always_violated c =
 
 pub returns : goal.returns
 unfolding numbers_of clauses_of
-returns-then-is_always_violated c =
+returns c =
     let tested = sym c.is_always_violated.ensures ∙ c.if-is_always_violated.false in
     let all = c.put_violations-a.ensures in
     let end = c.put_end.ensures.0 in (

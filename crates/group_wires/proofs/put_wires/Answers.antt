@@ -18,7 +18,7 @@ pub put_later_wires-requires : goal.put_later_wires-requires
 put_later_wires-requires c = search (rules, frame-again, room-later)
 
 pub returns : goal.returns
-returns-then-i-eq0 c =
+returns c =
     let later = c.if-i-eq0.false in
     let again : c.args.i - 1 + 1 ≡ c.args.i = omega (arith, later) in
     rw (ne_eqb _ 0 later) (rw again at c.put_later_wires.ensures)

@@ -32,7 +32,7 @@ certify_net-requires c =
     sizes-lists _ _ _ [] [] sizes
 
 pub returns : goal.returns
-returns-in-Refused c =
+returns c =
     let read = c.read_codes-sheet.ensures in
     let v = sym (verdict-is read) ∙ c.in_default.is in
     let told = rw (holds read v).net-is at c.certify_net.ensures in

@@ -22,7 +22,7 @@ check_step-requires c =
 
 pub returns : goal.returns
 unfolding contents_after scratch_after store_need
-returns-then-store-need c =
+returns c =
     let v = room-enough (store_need (length c.args.invariant.now) (length c.args.requests.now) (length c.args.lemmas.now)) (length c.args.store.now) (omega (arith, c.if-store-need.false)) in
     let checked = c.check_step.ensures in
     (c.reply_of.ensures ∙ rw (v, checked.0), (rw v checked.1.0, rw v checked.1.1))

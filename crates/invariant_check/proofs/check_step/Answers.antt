@@ -42,7 +42,7 @@ returns-then-holds_at_start c =
 
 pub returns : goal.returns
 unfolding step_found step_scratch
-returns-then-holds_at_start c =
+returns c =
     let laid = c.lay-front.ensures in
     let fails = sym (start-lists c.args.net c.args.latches.now c.args.gates.now c.args.invariant.now) ∙ sym c.holds_at_start.ensures ∙ c.if-holds_at_start.false in
     (rw fails, (laid.1, refl))

@@ -25,7 +25,7 @@ returns-then-k-eq2 c =
 
 pub returns : goal.returns
 unfolding pick
-returns-then-k-eq0 c =
+returns c =
     rw (
       ne_eqb c.args.k 0 c.if-k-eq0.false,
       ne_eqb c.args.k 1 c.if-k-eq1.false,

@@ -13,5 +13,5 @@ returns-then-y-t-eq1 c =
 
 pub returns : goal.returns
 unfolding bit odd
-returns-then-y-t-eq1 c =
+returns c =
     c.opposite.ensures ∙ rw (ne_eqb (c.args.y / 2 ^ c.args.t % 2) 1 c.if-y-t-eq1.false)

@@ -43,7 +43,7 @@ pick_match-requires c =
 
 pub returns : goal.returns
 unfolding match_law net_of port_of code_of
-returns-then-net-q c =
+returns c =
     let port = rw add-one at c.port_of-port.ensures in
     let code = ap (λ (p : M.Port). p.address (c.args.i / 2)) port in
     c.pick_match.ensures

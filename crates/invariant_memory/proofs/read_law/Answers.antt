@@ -25,5 +25,5 @@ returns-then-word_count-x c =
 
 pub returns : goal.returns
 unfolding read_law net_of
-returns-then-net-q c =
+returns c =
     c.pick_read.ensures ∙ rw (le-leb (c.args.i % 2) c.args.net.second_port (omega (arith, c.if-net-q.false)), lt-ltb (c.args.i / 2) c.args.net.n (omega (arith, c.if-net-t.false)), lt-ltb c.args.x (2 ^ c.args.net.m) (omega (arith, c.word_count.ensures.0, c.if-word_count-x.false)))

@@ -20,5 +20,5 @@ returns-then-word_count-x c =
 
 pub returns : goal.returns
 unfolding word_law net_of
-returns-then-net-t c =
+returns c =
     c.pick_word.ensures ∙ rw (lt-ltb c.args.t c.args.net.n (omega (arith, c.if-net-t.false)), lt-ltb c.args.x (2 ^ c.args.net.m) (omega (arith, c.word_count.ensures.0, c.if-word_count-x.false)))

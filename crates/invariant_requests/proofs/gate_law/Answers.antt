@@ -45,5 +45,5 @@ returns-then-g-net c =
 
 pub returns : goal.returns
 unfolding gate_law net_of state_count
-returns-then-g-net c =
+returns c =
     c.no_law.ensures ∙ rw (le-ltb c.args.g c.args.net.gates (omega arith))

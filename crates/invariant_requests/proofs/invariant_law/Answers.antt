@@ -18,5 +18,5 @@ returns-then-at-invariant c =
 
 pub returns : goal.returns
 unfolding invariant_law
-returns-then-at-invariant c =
+returns c =
     c.last_law.ensures ∙ rw (le-ltb c.args.h (length c.args.invariant.now) (omega arith))

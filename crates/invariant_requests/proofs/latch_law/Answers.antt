@@ -28,5 +28,5 @@ returns-then-l-net c =
 
 pub returns : goal.returns
 unfolding latch_law net_of
-returns-then-l-net c =
+returns c =
     c.no_law.ensures ∙ rw (le-ltb c.args.l c.args.net.latches (omega arith))

@@ -20,5 +20,5 @@ returns-then-l-net c =
 
 pub returns : goal.returns
 unfolding next_law net_of state_count
-returns-then-l-net c =
+returns c =
     c.no_law.ensures ∙ rw (le-ltb c.args.l c.args.net.latches (omega arith))

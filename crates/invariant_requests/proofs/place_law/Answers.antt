@@ -33,7 +33,7 @@ overflow_add-after c =
 
 pub returns : goal.returns
 unfolding place_law
-returns-then-parts-eq0 c =
+returns c =
     let is : c.parts_of-parts.result ≡ parts_of c.args.z = rw (read_back c.args.z c.fits.z) at c.parts_of-parts.ensures in
     c.pick-2.ensures
     ∙ rw (

@@ -70,7 +70,7 @@ returns-then-family-eq5 c =
 
 pub returns : goal.returns
 unfolding requested
-returns-then-family-eq0 c =
+returns c =
     c.no_law.ensures
     ∙ rw (
       ne_eqb (c.args.request / 8) 0 c.if-family-eq0.left,

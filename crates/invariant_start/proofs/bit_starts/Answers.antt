@@ -44,5 +44,5 @@ word_starts-requires c =
 
 pub returns : goal.returns
 unfolding net_of bit_starts
-returns-then-j-net c =
+returns c =
     c.word_starts.ensures ∙ rw (c.read_count-reads.ensures, le-ltb c.args.j c.args.net.latches (omega (arith, c.if-j-net.false)), le-ltb c.args.j (c.args.net.latches + read_bits (alone c.args.net)) (omega (arith, c.read_count-reads.ensures, c.if-j-net-2.false)))

@@ -29,6 +29,6 @@ loop-i-preserved c =
     (omega arith, omega (arith, c.if-state-eq0.false), rw is (progress-most _ c.loop-i.state z inv.2), rw is (sym (left_at _ c.loop-i.state zs c.loop-i.i inv.1 inv.2 c.loop-i-test.true) ∙ inv.3))
 
 pub returns : goal.returns
-returns-then-state-eq0 c =
+returns c =
     let inv = c.loop-i.invariant in
     sym (left-past _ c.loop-i.state c.args.invariant.now c.loop-i.i inv.1 (omega arith)) ∙ inv.3

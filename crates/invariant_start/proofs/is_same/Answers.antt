@@ -8,5 +8,5 @@ returns-then-b c =
     rw c.if-b.true (is-beq-true c.args.a)
 
 pub returns : goal.returns
-returns-then-b c =
+returns c =
     rw c.if-b.false (not-beq-false c.args.a)

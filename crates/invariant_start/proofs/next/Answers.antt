@@ -43,7 +43,7 @@ returns-then-number_starts c =
 
 pub returns : goal.returns
 unfolding progress net_of state_count
-returns-then-state-eq2 c =
+returns c =
     let is : c.parts_of-parts.result ≡ parts_of c.args.z = rw (read_back c.args.z c.ranges.z) at c.parts_of-parts.ensures in
     let value = ap (λ (p : Parts). p.value) is in
     rw (goes_on c.args.z (λ e. c.if-parts-eq0.false (value ∙ e)), inside (state_count (alone c.args.net)) c.args.z (omega (arith, value, c.requires.1, c.if-b-parts.false)), sym (rw (read_back c.args.z c.ranges.z) at c.number_starts.ensures) ∙ c.if-number_starts.false)

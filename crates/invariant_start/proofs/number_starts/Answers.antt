@@ -14,7 +14,7 @@ returns-then-parts-eq0 c =
     c.bit_starts.ensures ∙ number-zero _ c.args.z (sym value ∙ c.if-parts-eq0.true)
 
 pub returns : goal.returns
-returns-then-parts-eq0 c =
+returns c =
     let is : c.parts_of-parts.result ≡ parts_of c.args.z = rw (read_back c.args.z c.ranges.z) at c.parts_of-parts.ensures in
     let value = ap (λ (p : Parts). p.value) is in
     c.bit_starts-2.ensures ∙ rw is (number-parts _ c.args.z)

@@ -13,5 +13,5 @@ returns-then-net-eq0 c =
 
 pub returns : goal.returns
 unfolding net_of
-returns-then-net-eq0 c =
+returns c =
     word-unknown c.args.net.initial_word c.args.net.unknown_start c.args.t c.args.value c.if-net-eq0.false

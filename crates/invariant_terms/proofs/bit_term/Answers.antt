@@ -11,5 +11,5 @@ returns-then-behind c =
 
 pub returns : goal.returns
 unfolding state_term
-returns-then-behind c =
+returns c =
     (rw c.if-behind.false, omega (arith, c.requires.1))

@@ -24,7 +24,7 @@ returns-then-x-eq1 c =
 
 pub returns : goal.returns
 unfolding number_of odd
-returns-then-x-eq1 c =
+returns c =
     let v : ℕ = c.args.x / 2 in
     let e : v + 1 ≡ suc v = omega arith in
     rw (ne_eqb (c.args.x % 2) 1 c.if-x-eq1.false) (to_z_pos w32 (v + 1) (omega arith) ∙ ap pos e)

@@ -12,4 +12,4 @@ returns-then-x-eq1 c = rw (eq-eqb (c.args.x % 2) 1 c.if-x-eq1.true)
 
 pub returns : goal.returns
 unfolding opposite odd
-returns-then-x-eq1 c = rw (ne_eqb (c.args.x % 2) 1 c.if-x-eq1.false)
+returns c = rw (ne_eqb (c.args.x % 2) 1 c.if-x-eq1.false)

@@ -29,5 +29,5 @@ returns-then-fits c =
 
 pub returns : goal.returns
 unfolding clause_of
-returns-then-direction-eq0 c =
+returns c =
     rw (sym c.fits2.ensures ∙ c.if-fits.false) c.put_terms-2.ensures

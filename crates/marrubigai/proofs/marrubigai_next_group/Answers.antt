@@ -26,7 +26,7 @@ returns-then-ports-gt2 c =
 
 pub returns : goal.returns
 unfolding group_of
-returns-then-ports-eq0 c =
+returns c =
     let same = order-some c.args.ports c.args.depth (omega arith) (omega arith) in
     let order = rw c.group_of.ensures at c.next_group.ensures in
     let sent = c.next_numbers-2.ensures in (

@@ -12,4 +12,4 @@ returns-then-unknown-eq0 c =
     c.is_word_outside.ensures ∙ sym (given-fault c.args.n c.args.word c.args.unknown c.if-unknown-eq0.true)
 
 pub returns : goal.returns
-returns-then-unknown-eq0 c = sym (unknown-fault c.args.n c.args.word c.args.unknown c.if-unknown-eq0.false)
+returns c = sym (unknown-fault c.args.n c.args.word c.args.unknown c.if-unknown-eq0.false)

@@ -73,5 +73,5 @@ returns-then-place-second-2 c =
 
 pub returns : goal.returns
 unfolding net_of
-returns-then-place-lt2 c =
+returns c =
     sym (at-second-enable (alone c.args.net) c.args.place (omega arith) (omega arith))

@@ -33,7 +33,7 @@ is_last_wire_outside-requires c =
 
 pub returns : goal.returns
 unfolding net_of
-returns-then-is_kind_outside c =
+returns c =
     rw (
       c.is_outside.ensures,
       c.is_outside-2.ensures,

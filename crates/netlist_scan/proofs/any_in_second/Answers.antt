@@ -16,7 +16,7 @@ returns-then-net-gt0 c = rw (lt-ltb _ _ c.if-net-gt0.true, c.any_address.ensures
 
 pub returns : goal.returns
 unfolding net_of any_in_second
-returns-then-net-gt0 c = rw (le-ltb _ _ c.if-net-gt0.false)
+returns c = rw (le-ltb _ _ c.if-net-gt0.false)
 
 pub is_above-requires : goal.is_above-requires
 is_above-requires c = tt

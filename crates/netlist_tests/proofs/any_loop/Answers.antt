@@ -42,6 +42,6 @@ returns-then-net-gt0 c =
 
 pub returns : goal.returns
 unfolding net_of
-returns-then-net-gt0 c =
+returns c =
     rw (any_line-ports (alone c.args.net), c.any_dependent-any.ensures, le-ltb _ _ c.if-net-gt0.false)
     (sym (or-false _))

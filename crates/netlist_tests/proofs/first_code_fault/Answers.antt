@@ -65,7 +65,7 @@ loop-place-preserved c =
 
 pub returns : goal.returns
 unfolding net_of
-returns-then-code_fault c =
+returns c =
     sym (passed-all (net_of c.args.net c.args.latches.now c.args.gates.now) CodeOutside code_fault
     c.loop-place.place
     (omega (arith, c.control_line-last.ensures))

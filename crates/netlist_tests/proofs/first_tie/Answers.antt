@@ -45,7 +45,7 @@ loop-t-preserved c =
     )
 
 pub returns : goal.returns
-returns-then-is_tied c =
+returns c =
     let all : c.loop-t.t ≡ c.args.m = omega arith in
     first-unique
     (record { within = omega arith; none_before = rw all at c.loop-t.invariant.1; holds-there = λ l. absurd (omega arith) })

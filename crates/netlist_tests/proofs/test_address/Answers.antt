@@ -17,4 +17,4 @@ returns-then-t-m c = rw (← c.first_tie-t.ensures, lt-ltb _ _ c.if-t-m.true)
 
 pub returns : goal.returns
 unfolding test_address
-returns-then-t-m c = rw (← c.first_tie-t.ensures, le-ltb _ _ c.if-t-m.false)
+returns c = rw (← c.first_tie-t.ensures, le-ltb _ _ c.if-t-m.false)

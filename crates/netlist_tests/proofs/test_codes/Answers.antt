@@ -18,5 +18,5 @@ returns-then-any_code_fault c = c.first_code_fault.ensures
 
 pub returns : goal.returns
 unfolding code_fault
-returns-then-any_code_fault c =
+returns c =
     sym (passed-quick (net_of c.args.net c.args.latches.now c.args.gates.now) CodeOutside code_fault refl refl (sym c.any_code_fault.ensures ∙ c.if-any_code_fault.false))

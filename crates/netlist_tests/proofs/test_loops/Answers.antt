@@ -98,7 +98,7 @@ loop-place-preserved c =
 
 pub returns : goal.returns
 unfolding net_of
-returns-then-not-any_loop c =
+returns c =
     sym (passed-all (net_of c.args.net [] c.args.gates.now) MemoryLoop loop_fault c.loop-place.place
     (omega (arith, c.control_line-last.ensures))
     c.loop-place.invariant.1)

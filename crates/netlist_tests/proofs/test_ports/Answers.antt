@@ -27,4 +27,4 @@ returns-in-Refused c =
 
 pub returns : goal.returns
 unfolding ◌then◌
-returns-in-Refused c = rw (tested (goal.at.returns c).After-test_ties-ties ∙ c.in_default.is) c.test_loops.ensures
+returns c = rw (tested (goal.at.returns c).After-test_ties-ties ∙ c.in_default.is) c.test_loops.ensures

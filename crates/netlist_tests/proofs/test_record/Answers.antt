@@ -69,6 +69,6 @@ test_ports-requires c =
 
 pub returns : goal.returns
 unfolding net_of record_verdict ◌then◌
-returns-in-Refused c =
+returns c =
     rw (sizes (goal.at.returns c).After-test_sizes-sizes ∙ c.in_default.is, c.if-latch_count-net.false, sym c.test_codes-codes.ensures ∙ c.in_default-codes.is)
     (c.test_ports.ensures ∙ test-ports-latches c.args.net c.args.latches.now c.args.gates.now)

@@ -43,7 +43,7 @@ returns-then-memory_fault c =
 
 pub returns : goal.returns
 unfolding size_fault
-returns-then-sizes_fault c =
+returns c =
     let d = alone c.args.net in
     sym ((test_lines-passes d Size size_fault).1
     (record {

@@ -71,7 +71,7 @@ returns-then-net-gt0 c =
 
 pub returns : goal.returns
 unfolding net_of ◌then◌
-returns-in-Refused c =
+returns c =
     rw (
       ties-by-ports (alone c.args.net),
       tested (goal.at.returns c).After-test_address-ties,

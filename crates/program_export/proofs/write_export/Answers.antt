@@ -22,7 +22,7 @@ put_file-requires c =
 
 pub returns : goal.returns
 unfolding text_or_refusal
-returns-in-Refused c =
+returns c =
     let v = sym c.test_export-tested.ensures ∙ c.in_default.is in
     let w = c.put_file.ensures in
     (rw v w.0, w.1)

@@ -14,7 +14,7 @@ returns-in-Refused c =
     (rw (output-refused c.args.file.now v) w.0, (omega (arith, w.1), (exported, only-due)))
 
 pub returns : goal.returns
-returns-in-Refused c =
+returns c =
     let read = c.read_codes-sheet.ensures in
     let v = sym (verdict-is read) ∙ c.in_default.is in
     let w = rw (holds read v).net-is at c.write_export.ensures in

@@ -11,5 +11,5 @@ returns-then-number-eq11 c =
     rw (not-false c.args.more c.if-not-more.false, eq-eqb c.args.number 11 c.if-number-eq11.true, c.line_count.ensures)
 
 pub returns : goal.returns
-returns-then-not-more c =
+returns c =
     rw (not-false c.args.more c.if-not-more.false, ne_eqb c.args.number 11 c.if-number-eq11.false)

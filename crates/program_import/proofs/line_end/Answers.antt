@@ -12,4 +12,4 @@ returns-then-x-eq10 c = (rw (eq-eqb c.args.x line_feed c.if-x-eq10.true), omega 
 
 pub returns : goal.returns
 unfolding parts_after
-returns-then-x-eq10 c = (rw (ne_eqb c.args.x line_feed c.if-x-eq10.false), omega arith)
+returns c = (rw (ne_eqb c.args.x line_feed c.if-x-eq10.false), omega arith)

@@ -45,5 +45,5 @@ put_sheet-requires c =
     (fit, omega (arith, lines-most _ fit, c.requires))
 
 pub returns : goal.returns
-returns-in-Refused c =
+returns c =
     let w = rw (holds c.import_text-sheet.ensures (passed (goal.at.returns c).After-put_sheet-arg-1)).net-is at c.put_sheet.ensures in record { text = rw (printed-passed c.args.more c.args.text.now c.args.m c.args.n c.args.word c.args.unknown c.args.second (passed (goal.at.returns c).After-put_sheet-arg-1)) w; most = omega (arith, w.counted, length-sheet_text _ (limits (goal.at.returns c).After-put_sheet-arg-1), lines-most _ (limits (goal.at.returns c).After-put_sheet-arg-1).sizes) }

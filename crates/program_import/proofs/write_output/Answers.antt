@@ -18,6 +18,6 @@ slice_bounds-write_import-end c =
     sym (length-take-le 4194304 c.args.read.now (omega (arith, c.if-read-le4194304.false)))
 
 pub returns : goal.returns
-returns-then-read-le4194304 c =
+returns c =
     let w = c.write_import-2.ensures in
     (rw (output-cut c.args.read.now c.args.m c.args.n c.args.word c.args.unknown c.args.second c.if-read-le4194304.false) w.0, (w.1, (room-suffices, (no-code-outside, prefix-suffices))))

@@ -14,7 +14,7 @@ write_refusal-requires c =
     omega (arith, c.requires, length-refusal_text c.args.number c.args.place c.ranges.number.fits c.ranges.place.fits)
 
 pub returns : goal.returns
-returns-then-is_cut c =
+returns c =
     let w = c.write_refusal.ensures in
     rw (sym c.is_cut.ensures ∙ c.if-is_cut.false)
     (record { text = w; most = omega (arith, w.counted, length-refusal_text c.args.number c.args.place c.ranges.number.fits c.ranges.place.fits) })

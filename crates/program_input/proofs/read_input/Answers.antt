@@ -38,7 +38,7 @@ slice_bounds-read_sheet-start c = omega (arith, passed-long _ (depth-passed c))
 
 pub returns : goal.returns
 unfolding input_answer
-returns-in-Refused c =
+returns c =
     let s = c.args.input.now in
     let decided = sheet-decides s (depth-passed (goal.at.returns c).In_default) in
     let depth = c.read_depth-line.ensures.depth in

@@ -12,5 +12,5 @@ returns-then-reply-eq0 c =
 
 pub returns : goal.returns
 unfolding is_broken
-returns-then-reply-eq0 c =
+returns c =
     rw (ne_eqb c.args.reply.number 0 (λ h. omega arith))

@@ -13,6 +13,6 @@ returns-then-is_broken c =
     record { bytes = rw broken c.trace_length.ensures; most = omega (arith, c.trace_length.ensures, trace-small c.args.depth (last_wire (alone c.args.net)) c.requires.1 c.requires.0.wires-fit) }
 
 pub returns : goal.returns
-returns-then-is_broken c =
+returns c =
     let broken = sym c.is_broken.ensures ∙ c.if-is_broken.false in
     record { bytes = rw broken; most = omega arith }

@@ -39,6 +39,6 @@ write_refusal-requires c =
 
 pub returns : goal.returns
 unfolding answer_text
-returns-then-is_broken c =
+returns c =
     let broken = sym c.is_broken.ensures ∙ c.if-is_broken.false in
     record { text = rw (broken, ne_eqb c.args.reply.number 0 (λ h. omega arith)) c.write_refusal.ensures; most = omega (arith, c.write_refusal.ensures.counted, length-refusal_text c.args.reply.number c.args.reply.place (search rules) (search rules)) }

@@ -22,7 +22,7 @@ certify_net-requires c = let t = c.read_input-taken.ensures.taken.0 c.if-taken-n
     (rw t.net-is t.accepted, omega (arith, t.depth-most))
 
 pub returns : goal.returns
-returns-then-taken-ne0 c = let t = c.read_input-taken.ensures.taken.0 c.if-taken-ne0.false in
+returns c = let t = c.read_input-taken.ensures.taken.0 c.if-taken-ne0.false in
     let told = rw (t.net-is, t.depth_is) at c.certify_net.ensures in
     let is = told.0 ∙ sym (taken-sent c.args.input.now t.passed c.args.lemmas.now c.args.hints.now (length c.args.store.now) (length c.args.marks.now)) in (
       is,

@@ -17,6 +17,6 @@ check_depth-requires c = let shown = both-shown _ _ _ _ _ (sym c.test_room.ensur
 
 pub returns : goal.returns
 unfolding contents_after scratch_after
-returns-in-Refused c = let v = sym c.test_room.ensures ∙ c.in_default.is in
+returns c = let v = sym c.test_room.ensures ∙ c.in_default.is in
     let checked = c.check_depth.ensures in
     (c.reply_of.ensures ∙ rw (v, checked.0), (rw v checked.1.0, rw v checked.1.1))

@@ -21,5 +21,5 @@ returns-then-marks-marks_need c = sym (marks-short _ _ _ _ _ (omega (arith, c.if
     (omega (arith, c.if-marks-marks_need.true, c.marks_need.ensures, marks-lists c.args.net c.args.latches.now c.args.gates.now c.args.depth)))
 
 pub returns : goal.returns
-returns-then-store-front c = sym (both-enough _ _ _ _ _ (omega (arith, c.if-store-front-2.false, c.if-store-front.false, c.formula_length-front.ensures.0))
+returns c = sym (both-enough _ _ _ _ _ (omega (arith, c.if-store-front-2.false, c.if-store-front.false, c.formula_length-front.ensures.0))
     (omega (arith, c.if-marks-marks_need.false, c.marks_need.ensures, marks-lists c.args.net c.args.latches.now c.args.gates.now c.args.depth)))

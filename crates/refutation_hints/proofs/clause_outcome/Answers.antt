@@ -94,7 +94,7 @@ pub loop-i-preserved : goal.loop-i-preserved
 loop-i-preserved c = next (goal.at.loop-i-preserved c).After-join-outcome
 
 pub returns : goal.returns
-returns-then-s-eq0 c =
+returns c =
     sym (joined_code-one c.loop-i.outcome)
     ∙ ap (joined_code c.loop-i.outcome) (sym (outcome-none (length c.args.marks.now / 2) (false_in c.args.marks.now c.args.turn) c.args.known.now c.loop-i.i c.loop-i-test.false))
     ∙ c.loop-i.invariant

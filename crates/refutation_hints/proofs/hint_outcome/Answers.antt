@@ -12,6 +12,6 @@ returns-then-starts_at c =
 
 pub returns : goal.returns
 unfolding hint_outcome
-returns-then-starts_at c =
+returns c =
     let starts = sym c.starts_at.ensures ∙ c.if-starts_at.false in
     rw starts

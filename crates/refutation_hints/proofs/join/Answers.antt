@@ -18,6 +18,6 @@ returns-then-outcome-slot c =
     rw (ne_eqb c.args.mark c.args.turn c.if-mark-turn.false, c.if-outcome-slot.true) (sym (joined_code-same c.args.slot))
 
 pub returns : goal.returns
-returns-then-mark-turn c =
+returns c =
     rw (ne_eqb c.args.mark c.args.turn c.if-mark-turn.false)
     (sym (joined_code-other c.args.outcome c.args.slot c.if-outcome-eq0.false (λ h. omega (arith, h, c.requires)) c.if-outcome-slot.false))

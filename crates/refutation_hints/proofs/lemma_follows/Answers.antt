@@ -24,6 +24,6 @@ returns-then-mark_lemma c =
 
 pub returns : goal.returns
 unfolding follows
-returns-then-mark_lemma c =
+returns c =
     let some = sym c.mark_lemma.ensures.answer ∙ c.if-mark_lemma.false in
     record { answer = rw some; scratch = c.mark_lemma.ensures.marked.1 }

@@ -7,4 +7,4 @@ pub returns-then-turn-eq4294967295 : goal.returns-then-turn-eq4294967295
 returns-then-turn-eq4294967295 c = λ s. omega (arith, c.clear.ensures s)
 
 pub returns : goal.returns
-returns-then-turn-eq4294967295 c = λ s. omega (arith, c.requires s)
+returns c = λ s. omega (arith, c.requires s)

@@ -12,4 +12,4 @@ returns-then-slot-eq0 c =
     (λ z e. opposite-even z c.args.slot c.requires c.if-slot-eq0.true e, omega arith)
 
 pub returns : goal.returns
-returns-then-slot-eq0 c = (λ z e. opposite-odd z c.args.slot c.if-slot-eq0.false e, omega arith)
+returns c = (λ z e. opposite-odd z c.args.slot c.if-slot-eq0.false e, omega arith)

@@ -118,5 +118,5 @@ pub shape_of-marks : goal.shape_of-marks
 shape_of-marks c = c.loop-i.invariant.1
 
 pub returns : goal.returns
-returns-then-outcome-eq0 c =
+returns c =
     record { answer = sym (propagates-none (length c.loop-i.marks / 2) c.args.known.now (false_in c.loop-i.marks c.args.turn) c.args.hints.now c.loop-i.i c.loop-i-test.false) ∙ c.loop-i.invariant.3; scratch = c.loop-i.invariant.2 }

@@ -17,6 +17,6 @@ returns-then-before-known c =
     rw read (starts-behind c.args.known.now c.args.place (c.args.place - 1) (omega arith) c.if-before-known.true)
 
 pub returns : goal.returns
-returns-then-place-eq0 c =
+returns c =
     let d = c.if-place-eq0.false in
     sym (starts-past c.args.known.now c.args.place (c.args.place - 1) (omega arith) c.if-before-known.false)

@@ -167,6 +167,6 @@ pub shape_of-marks : goal.shape_of-marks
 shape_of-marks c = c.loop-i.invariant.2 ∙ c.clear.auto.0
 
 pub returns : goal.returns
-returns-then-store-end c =
+returns c =
     found (take c.args.front c.args.store.now) (drop c.args.front c.args.store.now) c.args.hints.now (length c.clear.new.marks) (length c.args.marks.now) _ _ c.clear.auto.0 c.loop-i.invariant.2
     (sym (checked-over (length c.clear.new.marks / 2) (take c.loop-i.at c.args.store.now) (clauses_in (drop c.loop-i.at c.args.store.now)) c.args.hints.now c.loop-i.i c.loop-i.lemma c.loop-i-test.false) ∙ c.loop-i.invariant.4)

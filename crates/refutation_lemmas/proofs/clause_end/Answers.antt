@@ -43,5 +43,5 @@ loop-i-preserved c =
     omega (arith, c.loop-i.invariant, goes_on store c.loop-i.i here (rw (read (goal.at.loop-i-preserved c).After-slot) c.loop-i c.if-slot-eq0.false))
 
 pub returns : goal.returns
-returns-then-slot-eq0 c =
+returns c =
     omega (arith, c.loop-i.invariant, ended c.args.store.now c.loop-i.i c.loop-i-test.false)

@@ -16,5 +16,5 @@ returns-then-count-hints c =
     let there = c.if-count-hints.true in record { answer = rw (le-leb c.args.count (length (drop c.args.first c.args.hints.now)) (simp length-drop there)) (rw own at c.lemma_follows.ensures.answer); scratch = c.lemma_follows.ensures.scratch }
 
 pub returns : goal.returns
-returns-then-count-hints c =
+returns c =
     record { answer = rw (lt-leb c.args.count (length (drop c.args.first c.args.hints.now)) (simp length-drop c.if-count-hints.false)); scratch = λ s. omega (arith, c.requires.3 s) }

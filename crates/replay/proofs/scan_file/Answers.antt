@@ -66,6 +66,6 @@ loop-more-preserved c =
     )
 
 pub returns : goal.returns
-returns-then-bytes-lt65536 c =
+returns c =
     let inv = c.loop-more.invariant in
     (inv.1, (inv.2, c.loop-more-test.false))

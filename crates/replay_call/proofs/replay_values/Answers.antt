@@ -79,7 +79,7 @@ write_word-requires c =
 
 pub returns : goal.returns
 unfolding net_of
-returns-then-shown c =
+returns c =
     let d = net_of c.args.net c.args.latches.now c.args.gates.now in
     let y = said_in c.args.signs.now in
     let ran = c.run-shown.ensures in

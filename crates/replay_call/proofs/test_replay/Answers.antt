@@ -52,5 +52,5 @@ returns-then-room-trace_length c =
 
 pub returns : goal.returns
 unfolding net_of
-returns-in-Refused c =
+returns c =
     sym (tests-passed _ _ _ _ _ _ (asked (goal.at.returns c).In_default) (omega (arith, c.if-words-word_count.false, c.word_count.ensures)) (omega (arith, c.if-room-trace_length.false, c.trace_length.ensures)))

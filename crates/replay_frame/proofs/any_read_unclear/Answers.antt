@@ -29,6 +29,6 @@ read_unclear-requires c =
 
 pub returns : goal.returns
 unfolding net_of
-returns-then-net-eq0 c =
+returns c =
     ap₂ ◌||◌ c.read_unclear-first.ensures c.read_unclear.ensures
     ∙ two-places _ c.args.net.second_port (omega (arith, c.if-net-eq0.false, c.requires.0.sizes.kind_fits))

@@ -44,6 +44,6 @@ returns-then-reads_untouched c =
 
 pub returns : goal.returns
 unfolding net_of address_of
-returns-then-net-eq0 c =
+returns c =
     let first = c.evaluate.ensures in
     record { filled = filled-by c.requires.0 first c.if-net-eq0.false (sym c.if-reads_untouched.false ∙ c.reads_untouched.ensures) refl; size = first.size }

@@ -57,7 +57,7 @@ two_words-requires c = c.requires.n-most
 
 pub returns : goal.returns
 unfolding net_of idle_of
-returns-then-net-eq0 c =
+returns c =
     let d = alone c.args.net in
     let value : ℕ → Bool = true_in c.args.signs.now in
     each-bit d (λ x. bit c.two_words.result x ≡ value (base d 0 + read_wire d x))

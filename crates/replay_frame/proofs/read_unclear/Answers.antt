@@ -45,5 +45,5 @@ returns-then-filled-i c =
 
 pub returns : goal.returns
 unfolding net_of
-returns-then-filled-i c =
+returns c =
     rw (sym (ap (λ reads. c.args.filled || (eqb c.args.i 0 && not reads)) c.is_reading-reads.ensures) ∙ c.if-filled-i.false)

@@ -25,5 +25,5 @@ returns-then-code_value c =
 
 pub returns : goal.returns
 unfolding net_of
-returns-then-code_value c =
+returns c =
     rw (sym c.code_value.ensures ∙ c.if-code_value.false)

@@ -16,5 +16,5 @@ returns-then-first-i c =
 
 pub returns : goal.returns
 unfolding next_first
-returns-then-broken c =
+returns c =
     rw (c.if-broken.false, ne_eqb _ _ c.if-first-i.false)

@@ -17,5 +17,5 @@ pub returns-in-Misprinted : goal.returns-in-Misprinted
 returns-in-Misprinted c = rw c.in-Misprinted.is
 
 pub returns : goal.returns
-returns-in-Empty c =
+returns c =
     sym (left-firm (content_of c.args.kind 2) c.args.third (λ e. c.if-content_of-eq-MAY_BE_EMPTY.false (c.content_of.ensures ∙ e)))

@@ -54,7 +54,7 @@ returns-then-not-is_wanted-3 c =
     (first-wanted (goal.at.returns-then-not-is_wanted-3 c).Else-not-is_wanted) (second-wanted (goal.at.returns-then-not-is_wanted-3 c).Else-not-is_wanted-2) other)
 
 pub returns : goal.returns
-returns-then-row_of-ge10 c =
+returns c =
     rw (c.value_of.ensures, c.value_of-2.ensures, c.value_of-3.ensures, c.left_empty.ensures)
     (sym
     (line_with-tests c.args.kind c.args.first c.args.second c.args.third true true true true (known (goal.at.returns c).Else-row_of-ge10)

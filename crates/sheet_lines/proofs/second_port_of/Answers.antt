@@ -10,5 +10,5 @@ returns-then-row_of c =
     rw (eq-eqb (row_of c.args.kind) 2 (sym c.row_of.ensures ∙ c.if-row_of.true ∙ c.row_of-2.ensures))
 
 pub returns : goal.returns
-returns-then-row_of c =
+returns c =
     rw (ne_eqb (row_of c.args.kind) 2 (λ e. c.if-row_of.false (c.row_of.ensures ∙ e ∙ sym c.row_of-2.ensures)))

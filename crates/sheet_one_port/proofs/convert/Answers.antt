@@ -50,7 +50,7 @@ put_sheet-requires c = (sizes (goal.at.put_sheet-requires c).In_default, omega (
 
 pub returns : goal.returns
 unfolding net_of print_reply one_port_verdict one_port_sent one_port_leaves with_count contents_after ◌then◌
-returns-in-Refused c =
+returns c =
     let v = passed (goal.at.returns c).In_default in
     let agree = c.read_one_port-sheet.ensures.agrees v in
     let long = length-sheet_text _ (accepted-same _ _ agree (accepted-text c.args.file.now v)).limits in

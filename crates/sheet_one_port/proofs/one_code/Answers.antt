@@ -38,5 +38,5 @@ overflow_sub-result c = omega (arith, behind (goal.at.overflow_sub-result c).Els
 
 pub returns : goal.returns
 unfolding net_of
-returns-then-is_below c =
+returns c =
     sym (code-behind (alone c.args.net) c.args.code.0 (behind (goal.at.returns c).Else-is_below) (omega arith))

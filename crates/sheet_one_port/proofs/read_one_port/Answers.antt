@@ -58,7 +58,7 @@ one_record-requires c =
     (sizes (goal.at.one_record-requires c).After-read_codes-sheet, full.address-codes, full.data-codes)
 
 pub returns : goal.returns
-returns-in-Refused c =
+returns c =
     let file = c.args.file.now in
     let held = holds c.read_codes-sheet.ensures (read-passed (goal.at.returns c).After-read_codes-sheet) in
     let second = rw held.net-is at (sym c.test_second-used.ensures ∙ c.in_default-used.is) in

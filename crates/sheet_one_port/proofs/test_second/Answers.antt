@@ -56,7 +56,7 @@ loop-place-preserved c =
 
 pub returns : goal.returns
 unfolding net_of
-returns-then-second_use c =
+returns c =
     sym (passed-all (net_of c.args.net c.args.latches.now c.args.gates.now) SecondPort second_use
     c.loop-place.place
     (omega (arith, c.control_line-last.ensures))

@@ -26,4 +26,4 @@ parse_line-requires c =
     (line-there c.args.file.now c.args.line (there c)).1
 
 pub returns : goal.returns
-returns-then-not-has_line c = rw (c.answer_of.ensures, c.parse_line.ensures, after-there _ _ (there (goal.at.returns c).Else-not-has_line))
+returns c = rw (c.answer_of.ensures, c.parse_line.ensures, after-there _ _ (there (goal.at.returns c).Else-not-has_line))

@@ -14,4 +14,4 @@ pub returns-then-place-ge3 : goal.returns-then-place-ge3
 returns-then-place-ge3 c = rw c.control_line.ensures
 
 pub returns : goal.returns
-returns-then-place-ge3 c = sym (le-ltb (control_line (alone c.args.net)) c.args.place (omega arith))
+returns c = sym (le-ltb (control_line (alone c.args.net)) c.args.place (omega arith))

@@ -59,6 +59,6 @@ returns-in-Refused c =
     rw c.refused-in-Refused.ensures (outcome-refused _ _ _ (sym (judged (goal.at.returns-in-Refused c).After-test_stored-verdict) ∙ c.in-Refused.is))
 
 pub returns : goal.returns
-returns-then-is_past_last-is_due c =
+returns c =
     rw c.in_default.is
     (outcome-passed _ _ _ c.store-next.result (taken (goal.at.returns c).After-store-arg-1) (sym (judged (goal.at.returns c).After-test_stored-verdict) ∙ c.in_default.is))

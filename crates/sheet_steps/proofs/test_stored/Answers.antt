@@ -43,6 +43,6 @@ returns-then-code_fault c =
 
 pub returns : goal.returns
 unfolding faults_at ◌then◌
-returns-then-sizes_fault c =
+returns c =
     let late : size_fault (net_of c.args.net c.args.latches.now c.args.gates.now) c.args.due ≡ false = rw c.requires.1 (no-size-from-3 (net_of c.args.net c.args.latches.now c.args.gates.now) (alone c.args.net) c.args.place c.if-place-lt3.false) in
     rw (late, sym c.code_fault.ensures ∙ c.if-code_fault.false)

@@ -42,7 +42,7 @@ returns-then-latch_room-net c =
     (sheet-short c.args.file.now c.args.latch_room c.args.gate_room (passed (goal.at.returns-then-latch_room-net c).In_default) (sym (short-held (goal.at.returns-then-latch_room-net c).In_default) ∙ c.if-latch_room-net.true)))
 
 pub returns : goal.returns
-returns-in-Refused c =
+returns c =
     let fits = sheet-passed c.args.file.now c.args.latch_room c.args.gate_room (passed (goal.at.returns c).In_default) (sym (short-held (goal.at.returns c).In_default) ∙ c.if-latch_room-net.false) in
     outcome-same (sheet_verdict c.args.file.now c.args.latch_room c.args.gate_room) (passed (goal.at.returns c).In_default ∙ sym fits) (λ _. refl)
     c.test_file-sheet.ensures

@@ -27,5 +27,5 @@ test_ports-requires c = c.requires.1.limits (omega (arith, c.control_line.ensure
 
 pub returns : goal.returns
 unfolding net_of
-returns-then-count-lt3 c =
+returns c =
     c.test_ports.ensures ∙ sym (end_whole (net_of c.args.net [] c.args.gates.now) c.args.count (omega (arith, c.control_line.ensures)))

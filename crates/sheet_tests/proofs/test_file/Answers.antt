@@ -67,7 +67,7 @@ returns-in-Refused-ended c =
     rw c.refused-in-Refused-ended.ensures (outcome-refused _ _ (net_in file) (file-ended (goal.at.returns-in-Refused-ended c).After-test_end-ended ∙ c.in-Refused-ended.is))
 
 pub returns : goal.returns
-returns-then-is_ragged c =
+returns c =
     let file = c.args.file.now in
     let passed = file-ended (goal.at.returns c).After-test_end-ended ∙ c.in_default-ended.is in
     outcome-same (file_verdict file) (passed_lines (goal.at.returns c).In_default-1 ∙ sym passed) (λ _. refl) c.read_lines-sheet.ensures

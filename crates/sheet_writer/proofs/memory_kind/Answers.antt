@@ -7,4 +7,4 @@ pub returns-then-second_port-eq0 : goal.returns-then-second_port-eq0
 returns-then-second_port-eq0 c = rw (eq-eqb c.args.second_port 0 c.if-second_port-eq0.true)
 
 pub returns : goal.returns
-returns-then-second_port-eq0 c = rw (ne_eqb c.args.second_port 0 c.if-second_port-eq0.false)
+returns c = rw (ne_eqb c.args.second_port 0 c.if-second_port-eq0.false)

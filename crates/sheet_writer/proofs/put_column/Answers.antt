@@ -9,5 +9,5 @@ returns-then-filled c = let w = c.put_field.ensures in
     rw c.if-filled.true (w, omega (arith, w.counted, length-field c.args.x c.ranges.x.fits))
 
 pub returns : goal.returns
-returns-then-filled c = let w = c.write_word.ensures in
+returns c = let w = c.write_word.ensures in
     rw c.if-filled.false (w, omega (arith, w.counted))

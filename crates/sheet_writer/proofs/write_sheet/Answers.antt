@@ -51,7 +51,7 @@ put_sheet-requires c =
 
 pub returns : goal.returns
 unfolding net_of print_reply write_sheet_verdict write_sent write_leaves with_count contents_after ◌then◌
-returns-in-Refused c =
+returns c =
     let v = passed (goal.at.returns c).In_default in
     let w = c.put_sheet.ensures in
     let enough = room-enough (length (sheet_text (net_of c.args.net c.args.latches.now c.args.gates.now))) (length c.args.out.now) (omega (arith, length-sheet_text _ (accepted (goal.at.returns c).In_default).limits, c.if-out-control_line.false, c.control_line.ensures)) in

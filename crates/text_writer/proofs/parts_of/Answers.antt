@@ -38,7 +38,7 @@ overflow_cast-result-2 c =
     rw (read_back z f) (from_zero z (not-below-least z (rw (read_back z f) at c.if-z-lt0.false)), nat_abs-fits z f)
 
 pub returns : goal.returns
-returns-then-z-lt0 c =
+returns c =
     let z = c.args.z in
     let f = c.ranges.z in
     rw (read_back z f) (sym (parts_of-not-below z (rw (read_back z f) at c.if-z-lt0.false)))

@@ -32,4 +32,4 @@ write_three-requires c =
     (c.requires.0, omega arith, omega arith, omega (arith, ap length (digits-three c.args.x (omega arith) (omega arith))))
 
 pub returns : goal.returns
-returns-then-x-lt10 c = c.write_three.ensures
+returns c = c.write_three.ensures
