@@ -8,7 +8,7 @@ cd "$(dirname "$0")/.." || exit 2
 order() { # a list of crates: read for their places, then for their imports
   awk '
     /^#/ { if (/^# [^:]+: ./) families++; else { failed++; print "FAILED: a comment that names no family: " $0 }; next }
-    { colon = index($0, ":"); crate = substr($0, 1, colon - 1) }
+    { colon = index($0, ":"); crate = $0; sub(/[ :].*/, "", crate) }
     FNR == NR { place[crate] = FNR; times[crate]++; named[crate] = families; next }
     {
       why = times[crate] == 1 ? "" : " stands there " times[crate] " times"

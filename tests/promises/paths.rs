@@ -299,7 +299,7 @@ pub struct Paths<'a> {
 impl<'a> Paths<'a> {
     pub fn of(repository: &'a Repository, definitions: &'a Definitions, functions: Vec<&'a Public>) -> Paths<'a> {
         let list = repository.read("crates.txt");
-        let crates = list.lines().filter(|line| !line.starts_with('#')).filter_map(|line| Some(line.split_once(':')?.0));
+        let crates = list.lines().filter(|line| !line.starts_with('#')).filter(|line| line.contains(':')).filter_map(|line| line.split([' ', ':']).next());
         let mut order = Vec::new();
         for of in crates {
             let lib = repository.0.join(format!("crates/{of}/specs/Lib.antt"));
