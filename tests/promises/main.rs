@@ -5,7 +5,7 @@
 //! `check` also wants each definition in specs/ reached by the contract of some function: what only proofs need stands beside them.
 //! The last line of `check` is the total.
 //! Arguments: print, write or check, and the repository's folder; or read, the path's label, and the folder. What the proofs' check said is read from
-//! target/log (after `rt ci` or `rt check`), but for `read`.
+//! target/log (after `scripts/build.sh library`), but for `read`.
 
 mod paths;
 
@@ -482,17 +482,23 @@ fn edits_blocks(repository: &Repository, functions: &[Public]) -> ([String; 2], 
     ([programs, definitions], short)
 }
 
-/// What the check said that it assumes, of each crate: NAME.say is kept where the crate has not changed since, NAME.out is not.
+/// What the check said that it assumes. It says so of the crates that no other imports, of all that these reach.
 fn axioms_block(repository: &Repository) -> String {
-    let logs = repository.files("target/log", ".say");
-    if logs.is_empty() {
-        eprintln!("target/log has nothing of a check: make test first");
-        std::process::exit(2);
+    let list = repository.read("crates.txt");
+    let lines = list.lines().filter(|line| !line.starts_with('#')).filter_map(|line| line.split_once(':'));
+    let (mut tops, mut imported) = (BTreeSet::new(), BTreeSet::new());
+    for (head, imports) in lines {
+        tops.extend(head.split_whitespace().next());
+        imported.extend(imports.split_whitespace());
     }
     let mut text = String::new();
-    for path in logs {
-        let name = Path::new(&path).file_stem().expect("a name").to_string_lossy().into_owned();
-        for line in repository.read(&path).lines().filter(|line| line.starts_with("axioms ") && !line.contains(": none reached ")) {
+    for name in tops.difference(&imported) {
+        let said = fs::read_to_string(repository.0.join(format!("target/log/{name}.say"))).unwrap_or_default();
+        if !said.lines().any(|line| line.starts_with("logic=proved ")) {
+            eprintln!("target/log has no check of {name}: make test first, or scripts/build.sh library");
+            std::process::exit(2);
+        }
+        for line in said.lines().filter(|line| line.starts_with("axioms ") && !line.contains(": none reached ")) {
             text += &format!("{name}: {line}\n");
         }
     }
