@@ -11,7 +11,7 @@ mkdir -p target/bin target/staticlib target/log
 command -v rt >/dev/null 2>&1 || { echo "the Rattle kit is missing: the command 'rt' is not on the PATH" >&2; exit 1; }
 # of all that is read
 sources() {
-  { rt version; cat crates.txt; find crates -path '*/out' -prune -o -type f -print | LC_ALL=C sort | xargs -d '\n' sha256sum; } | sha256sum
+  { rt version; cat crates.txt; find crates \( -path '*/out' -o -path '*/must-fail' \) -prune -o -type f -print | LC_ALL=C sort | xargs -d '\n' sha256sum; } | sha256sum
 }
 sum=$(sources)
 is_new() { [ "$sum" != "$(cat "target/built-$1" 2>/dev/null)" ]; } # programs or library
@@ -36,7 +36,7 @@ library() {
   local jobs
   is_new library || [ ! -f target/staticlib/libmarrubigai.a ] || return 0
   jobs=$(awk -v most="$(nproc)" '/^MemAvailable:/ { fit = int($2 / 2500000) } END { print fit < 1 ? 1 : fit < most ? fit : most }' /proc/meminfo)
-  rt all check --jobs "$jobs" > target/log/all.out 2>&1 || { cat target/log/all.out; return 1; }
+  rt all check --jobs "$jobs" > target/log/all.out 2>&1 || { grep -E 'error|not proved' target/log/all.out | head -n 40; tail -n 100 target/log/all.out; return 1; }
   rm -f target/log/*.say
   awk '/^== / { if (out) close(out); out = $2 == "summary" ? "" : "target/log/" $2 ".say"; next } out { print > out }' target/log/all.out
   (cd crates/marrubigai && rt lib) > target/log/lib.out 2>&1 || { cat target/log/lib.out; return 1; }

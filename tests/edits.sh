@@ -7,7 +7,8 @@
 # A parse error, a name out of scope, a definition that no longer type checks, or a proof file that merely no longer fits the code shows nothing about
 # the promise, and fails.
 # `rt ci` tries each edit, and tells of each no more than its first error. So each is checked here once more, in a copy of the crates, over what
-# `scripts/build.sh library` has built; what the prover said stands in target/must-fail/CRATE/EDIT/.log.
+# `scripts/build.sh library` has built; what the prover said stands in target/must-fail/CRATE/EDIT/.log. It is kept, as rt keeps what it proved, by the
+# checksum of all that the check read: the kit, the edit, its crate and those below. ANEW=1 checks all once more.
 # Arguments: names of crates, or none for all.
 set -u
 cd "$(dirname "$0")/.." || exit 2
@@ -15,6 +16,30 @@ passed=0
 failed=0
 # a folder of this checkout alone, so that what rt notes of its copies is overwritten by the next run
 rooms=${TMPDIR:-/tmp}/marrubigai-edits-$(pwd | cksum | cut -d ' ' -f 1)
+
+kept=${XDG_CACHE_HOME:-$HOME/.cache}/marrubigai/must-fail
+
+# The sum of each crate's files, and the crates that it stands on, itself among them.
+note_sums() {
+  local crate
+  for crate in crates/*/; do
+    crate=$(basename "$crate")
+    find "crates/$crate/src" "crates/$crate/specs" "crates/$crate/proofs" -type f -print 2>/dev/null | LC_ALL=C sort | xargs -d '\n' sha256sum |
+      sha256sum | sed "s/^/$crate /"
+  done > "$rooms/sums"
+  awk '/^[a-z]/ {
+    crate = $0; sub(/[ :].*/, "", crate); all = " " crate " "
+    for (n = split(substr($0, index($0, ":") + 1), import, " "); n > 0; n--)
+      for (k = split(import[n] " " below[import[n]], each, " "); k > 0; k--) if (!index(all, " " each[k] " ")) all = all each[k] " "
+    below[crate] = all
+    print crate, all
+  }' crates.txt > "$rooms/below"
+  rt version > "$rooms/kit"
+}
+key_of() { # edit, crate
+  { cat "$rooms/kit" "$1"; awk -v crate="$2" 'FNR == NR { if ($1 == crate) for (k = 2; k <= NF; k++) wanted[$k]; next } $1 in wanted' "$rooms/below" "$rooms/sums"; } |
+    sha256sum | cut -d ' ' -f 1
+}
 
 # Applies an edit to a crate's folder, as rt does: each 'old:' text stands once in its file. Prints the files, or fails.
 apply() { # edit, folder
@@ -44,12 +69,14 @@ apply() { # edit, folder
 
 # Checks a crate with an edit, in the copy of this slot.
 try() { # edit
-  local edit=$PWD/$1 crate label room log path
+  local edit=$PWD/$1 crate label room log path key
   crate=$(basename "$(dirname "$(dirname "$1")")")
   label=$(basename "$1" .edit)
   room=$rooms/$SLOT
   log=target/must-fail/$crate/$label/.log
-  mkdir -p "${log%/*}"
+  mkdir -p "${log%/*}" "$kept"
+  key=$(key_of "$edit" "$crate")
+  if [ -f "$kept/$key" ] && [ -z "${ANEW-}" ]; then cp "$kept/$key" "$log"; return; fi
   if [ ! -d "$room" ]; then
     mkdir -p "$room"
     cp crates.txt "$room"
@@ -58,6 +85,7 @@ try() { # edit
   if apply "$edit" "$room/crates/$crate" > "$room/changed"; then
     (cd "$room/crates/$crate" && rt check --jobs 1) > "$log.new" 2>&1
     mv "$log.new" "$log"
+    if grep -q '^logic=not-proved' "$log"; then cp "$log" "$kept/$key.$SLOT" && mv "$kept/$key.$SLOT" "$kept/$key"; fi
   else
     rm -f "$log"
   fi
@@ -128,6 +156,8 @@ for edit in crates/*/must-fail/*.edit; do
 done
 jobs=$(awk -v most="$(nproc)" '/^MemAvailable:/ { fit = int($2 / 2500000) } END { print fit < 1 ? 1 : fit < most ? fit : most }' /proc/meminfo)
 rm -rf "$rooms"
+mkdir -p "$rooms"
+note_sums
 trap 'rm -rf "$rooms"' EXIT
 began=$SECONDS
 printf '%s\n' "${edits[@]}" | xargs -d '\n' -n 1 -P "$jobs" --process-slot-var=SLOT bash tests/edits.sh --try
