@@ -1,4 +1,6 @@
 // The parts of a binary AIGER file: its header, its lines of one code, and its gates.
+#![tactic(auto)]
+
 ghost use Rattle.std.specs.Prelude.{[], ◌∷◌, ◌++◌, ◌+◌, ◌*◌, ◌≤◌, ◌<◌, length};
 ghost use Rattle.decimal.specs.Digits.{digits, line_feed};
 ghost use Rattle.model.specs.Wrote.{Wrote};

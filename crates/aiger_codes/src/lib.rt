@@ -1,4 +1,6 @@
 // The netlist of an ASCII AIGER text as tables, a record and unpacked lists (RULES I6 to I8): its sizes, and its codes under other numbers.
+#![tactic(auto)]
+
 ghost use Rattle.std.specs.Prelude.{◌≡◌, suc, ◌+◌, ◌*◌, ◌≤◌, length};
 ghost use Rattle.model.specs.Network.{renamed};
 ghost use Rattle.netlist.specs.RecordOf.{record_of};

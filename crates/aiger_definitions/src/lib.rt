@@ -1,6 +1,8 @@
 // What the lines of an ASCII AIGER text define and use: the first line that defines a variable again, and the first with a literal
 // whose variable is not defined. Variables reach 2^31 and no memory is lent: a table of marks serves one block of variables, and the
 // text is read again for the next block that a line names.
+#![tactic(auto)]
+
 ghost use Rattle.std.specs.Prelude.{◌≡◌, false, ℕ, suc, ◌+◌, ◌/◌, ◌≤◌, ◌<◌, min, length, get_or};
 ghost use Rattle.model.specs.Search.{IsFirst};
 ghost use Rattle.aiger_lines.specs.Parts.{counts_in, lines_due, malformed_at};
@@ -11,7 +13,7 @@ ghost use Rattle.aiger_definitions.specs.Blocks.{variables_of, VariablesRead, So
 use aiger_lines::{Counts, HeaderLine, Numbers, Part};
 
 // The variables on a line: the one that it defines, a gate's operands, and the one that any line may define; 0 where there is none.
-#[derive(Drop)]
+#[derive(Clone, Copy)]
 struct Variables {
     defined: u64,
     left: u64,
@@ -20,7 +22,7 @@ struct Variables {
 }
 
 // A line's variables, and where the next line begins.
-#[derive(Drop)]
+#[derive(Clone, Copy)]
 struct VariableLine {
     variables: Variables,
     next: usize,
@@ -28,7 +30,7 @@ struct VariableLine {
 
 // What a pass over the lines looks for: a variable that is defined again, an operand that is not defined before its line, or another
 // variable that is never defined.
-#[derive(Drop)]
+#[derive(Clone, Copy)]
 enum Look {
     Repeats,
     Operands,
@@ -36,14 +38,14 @@ enum Look {
 }
 
 // What is looked for in all lines.
-#[derive(Drop)]
+#[derive(Clone, Copy)]
 enum Fault {
     Repeated,
     Undefined,
 }
 
 // The variables looked at in a line, and whether a mark or no mark is the fault.
-#[derive(Drop)]
+#[derive(Clone, Copy)]
 struct Uses {
     first: u64,
     second: u64,
@@ -51,7 +53,7 @@ struct Uses {
 }
 
 // How many lines stand before the first fault, and the least variable behind the block.
-#[derive(Drop)]
+#[derive(Clone, Copy)]
 struct Found {
     first: u64,
     next: u64,

@@ -1,4 +1,6 @@
 // The differences by which a binary AIGER file says a gate's codes: their bytes, and how many they are.
+#![tactic(auto)]
+
 ghost use Rattle.std.specs.Prelude.{◌≡◌, ◌≤◌, length};
 ghost use Rattle.model.specs.Wrote.{Wrote};
 ghost use Rattle.aiger_difference.specs.Difference.{difference_bytes};

@@ -1,4 +1,6 @@
 // A record and unpacked lists exported as a binary AIGER file (RULES X1 to X7).
+#![tactic(auto)]
+
 ghost use Rattle.std.specs.Prelude.{◌≡◌, ◌≤◌, eqb, length};
 ghost use Rattle.model.specs.Search.{first_where};
 ghost use Rattle.netlist.specs.NetOf.{second_at, net_of};

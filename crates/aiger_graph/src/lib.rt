@@ -1,1 +1,2 @@
 // The and-inverter graphs of AIGER files and of records.
+#![tactic(auto)]

@@ -1,4 +1,6 @@
 // An ASCII AIGER text as a record and unpacked lists, or the refusal that it gets (RULES I1 to I8 and I10 to I12, T55).
+#![tactic(auto)]
+
 ghost use Rattle.std.specs.Prelude.{◌≡◌};
 ghost use Rattle.aiger_lines.specs.Steps.{HeaderRead};
 ghost use Rattle.aiger_netlist.specs.TextNetlist.{aag_net};
@@ -16,7 +18,7 @@ use refusals::{Refusal, Verdict};
 use sheet_steps::SheetAnswer;
 
 // A table of a text's first numbers by wire, with its outputs behind; and where the lines of its latches and of its gates begin.
-#[derive(Drop)]
+#[derive(Clone, Copy)]
 struct TextTable {
     entries: FirstNumbers,
     latches: usize,

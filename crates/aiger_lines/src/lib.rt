@@ -1,4 +1,6 @@
 // The lines of an ASCII AIGER text (RULES I1 to I4): what each is by the header's counts, its numbers, and how many are well-formed.
+#![tactic(auto)]
+
 ghost use Rattle.std.specs.Prelude.{◌≡◌, ◌&&◌, [], ◌+◌, ◌*◌, ◌≤◌, ltb, length, drop};
 ghost use Rattle.decimal.specs.TextValue.{same_text};
 ghost use Rattle.text_words.specs.Words.{words_of};
@@ -10,7 +12,7 @@ ghost use Rattle.aiger_lines.specs.Steps.{span_to, first_five, numbers_held, Hol
 use decimal::Number;
 
 // The header's counts: the largest variable (the report's M), inputs, latches, outputs, gates.
-#[derive(Drop)]
+#[derive(Clone, Copy)]
 pub struct Counts {
     pub largest: u32,
     pub inputs: u32,
@@ -20,7 +22,7 @@ pub struct Counts {
 }
 
 // What a line is.
-#[derive(Drop)]
+#[derive(Clone, Copy)]
 pub enum Part {
     Header,
     Input,
@@ -30,21 +32,21 @@ pub enum Part {
 }
 
 // The numbers on a line, 0 behind the last; none where there are more than five.
-#[derive(Drop)]
+#[derive(Clone, Copy)]
 pub struct Numbers {
     pub count: usize,
     pub values: [u32; 5],
 }
 
 // A line's numbers, and where the next line begins.
-#[derive(Drop)]
+#[derive(Clone, Copy)]
 pub struct NumberLine {
     pub numbers: Numbers,
     pub next: usize,
 }
 
 // The header's counts, and where the second line begins.
-#[derive(Drop)]
+#[derive(Clone, Copy)]
 pub struct HeaderLine {
     pub counts: Counts,
     pub next: usize,

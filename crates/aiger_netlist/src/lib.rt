@@ -1,1 +1,2 @@
 // The netlist that an ASCII AIGER text describes.
+#![tactic(auto)]

@@ -1,4 +1,6 @@
 // A record's wires and codes in the numbers of a binary AIGER file.
+#![tactic(auto)]
+
 ghost use Rattle.std.specs.Prelude.{◌≡◌, ◌+◌, ◌≤◌, ◌<◌};
 ghost use Rattle.model.specs.Network.{renamed};
 ghost use Rattle.model.specs.Acceptance.{SizesFit};
@@ -10,7 +12,7 @@ use literals::{Code, Wire};
 use netlist::Netlist;
 
 // What the numbers of a file depend on: how many inputs, latches and read bits there are.
-#[derive(Drop)]
+#[derive(Clone, Copy)]
 pub struct FileOrder {
     pub inputs: u32,
     pub latches: u32,

@@ -1,4 +1,6 @@
 // The tests of an ASCII AIGER text by itself (RULES T11 to T13).
+#![tactic(auto)]
+
 ghost use Rattle.std.specs.Prelude.{◌≡◌, not, suc, ◌+◌, ◌*◌, eqb, ltb};
 ghost use Rattle.aiger_graph.specs.RecordAig.{control_output};
 ghost use Rattle.aiger_lines.specs.Steps.{HeaderRead};

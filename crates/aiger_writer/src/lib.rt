@@ -1,4 +1,6 @@
 // The binary AIGER file of a record and unpacked lists: header, next codes, outputs, gates.
+#![tactic(auto)]
+
 ghost use Rattle.std.specs.Prelude.{◌≡◌, ℕ, ◌+◌, ◌*◌, ◌≤◌, ◌<◌, length};
 ghost use Rattle.model.specs.Wrote.{Wrote};
 ghost use Rattle.model.specs.Gather.{gather};

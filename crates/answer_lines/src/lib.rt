@@ -1,4 +1,6 @@
 // The lines of a solver's answer (RULES Q1 to Q7): what each makes of the answer, with the signs of its numbers in a table.
+#![tactic(auto)]
+
 ghost use Rattle.std.specs.Prelude.{◌≡◌};
 ghost use Rattle.decimal.specs.TextValue.{same_text};
 ghost use Rattle.decimal.specs.SignedValue.{clause_number_in};
@@ -9,7 +11,7 @@ use answer_signs::SignTable;
 use decimal::ClauseNumber;
 
 // What an answer says.
-#[derive(Drop)]
+#[derive(Clone, Copy)]
 pub enum AnswerKind {
     Malformed,
     Unsatisfiable,
@@ -18,7 +20,7 @@ pub enum AnswerKind {
 
 // How far an answer is read: its status line is missing; it is satisfiable, and the 0 behind the last value is missing; that 0 is read;
 // it is unsatisfiable; it is malformed, whatever follows.
-#[derive(Drop)]
+#[derive(Clone, Copy)]
 pub enum Progress {
     NoStatus,
     Values,

@@ -1,5 +1,7 @@
 // A solver's answer read in pieces (RULES Q1): a scan keeps the line that is begun, without the numbers on it that have ended, so that
 // neither lines nor answers have a longest. The longest line or number that counts has 15 bytes.
+#![tactic(auto)]
+
 ghost use Rattle.std.specs.Prelude.{◌≡◌, true, [], ◌∷◌};
 ghost use Rattle.answer_lines.specs.Answer.{is_marked};
 ghost use Rattle.answer_lines.specs.Written.{AnswerAsWritten};
@@ -10,14 +12,14 @@ use answer_lines::{AnswerKind, Progress};
 use answer_signs::SignTable;
 
 // How far the answer is read: by whole lines, and how many bytes are kept of the line that is begun.
-#[derive(Drop)]
+#[derive(Clone, Copy)]
 pub struct Position {
     pub progress: Progress,
     pub count: usize,
 }
 
 // A position, with the bytes that are kept.
-#[derive(Drop)]
+#[derive(Clone, Copy)]
 pub struct Scan {
     pub position: Position,
     pub line: [u8; 16],

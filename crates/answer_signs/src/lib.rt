@@ -1,4 +1,6 @@
 // The signs with which variables stand in a solver's answer (RULES Q5 and Q6), in a table that is lent.
+#![tactic(auto)]
+
 ghost use Rattle.std.specs.Prelude.{◌≡◌, [], ◌≤◌, nat_abs};
 ghost use Rattle.answer_signs.specs.Signs.{SignsOf, true_in, unclear_in};
 ghost use Rattle.answer_signs.specs.Marks.{Marked, with_sign, TableTells};

@@ -1,5 +1,7 @@
 // A running record (RULES R1 to R9): a depth, a frame of it and the frame's stored base, which the caller keeps and hands in. Its moves,
 // the groups of its frame and the literals of its frame.
+#![tactic(auto)]
+
 ghost use Rattle.std.specs.Prelude.{◌≡◌, ◌+◌, ◌≤◌, ◌<◌, pos, nat_abs, length};
 ghost use Rattle.model.specs.Netlist as M;
 ghost use Rattle.model.specs.Acceptance.{SizesFit};
@@ -22,7 +24,7 @@ use refusals::{CountReply, Refusal, Verdict};
 
 // A running record: where a caller that goes frame by frame stands.
 #[repr(C)]
-#[derive(Drop)]
+#[derive(Clone, Copy)]
 pub struct Position {
     pub depth: u32,
     pub frame: u32,
@@ -30,7 +32,7 @@ pub struct Position {
 }
 
 // A move (RULES R9). A start looks at the record's depth alone.
-#[derive(Drop)]
+#[derive(Clone, Copy)]
 pub enum Move {
     Begin,
     On,
@@ -40,7 +42,7 @@ pub enum Move {
 
 // What is sent back of a move: number and place (0 where it is not refused), and the record.
 #[repr(C)]
-#[derive(Drop)]
+#[derive(Clone, Copy)]
 pub struct PositionReply {
     pub number: u32,
     pub place: u32,
@@ -49,7 +51,7 @@ pub struct PositionReply {
 
 // What is sent back of a code's literal: number and place (0 where it is not refused), and the literal.
 #[repr(C)]
-#[derive(Drop)]
+#[derive(Clone, Copy)]
 pub struct LiteralReply {
     pub number: u32,
     pub place: u32,

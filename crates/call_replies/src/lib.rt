@@ -1,4 +1,6 @@
 // Groups and answers as numbers, for C and Rust: an exported function can neither take nor return an enum.
+#![tactic(auto)]
+
 ghost use Rattle.std.specs.Prelude.{◌≡◌};
 ghost use Rattle.refusals.specs.Slices.{with_count};
 ghost use Rattle.call_unpacked.specs.Calls.{group_reply, heading_reply};
@@ -30,7 +32,7 @@ pub fn group_of(kind: u32, j: u32, i: u32, port: u32) -> Group
 
 // What is sent back of the order of the groups: the group as four numbers, or that there is none (`end` is 1, and the numbers are 0).
 #[repr(C)]
-#[derive(Drop)]
+#[derive(Clone, Copy)]
 pub struct GroupReply {
     pub end: u32,
     pub kind: u32,
@@ -93,7 +95,7 @@ pub fn next_numbers(next: Next) -> GroupReply
 
 // The version of the header for C that the library is built for.
 #[repr(C)]
-#[derive(Drop)]
+#[derive(Clone, Copy)]
 pub struct VersionReply {
     pub major: u32,
     pub minor: u32,
@@ -172,7 +174,7 @@ pub fn heading_numbers(answer: HeadingAnswer) -> HeadingReply
 
 // What is sent back of a sheet: number (0 where it is not refused), place, and the record.
 #[repr(C)]
-#[derive(Drop)]
+#[derive(Clone, Copy)]
 pub struct SheetReply {
     pub number: u32,
     pub place: u32,

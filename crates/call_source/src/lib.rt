@@ -1,5 +1,7 @@
 // The literals that say where a word that a port reads comes from (RULES L15): S of a pair and Z of a closing. No list is looked at, so none is
 // lent.
+#![tactic(auto)]
+
 ghost use Rattle.std.specs.Prelude.{◌≡◌, true, ◌&&◌, ◌+◌, ◌≤◌, ◌<◌, leb};
 ghost use Rattle.model.specs.Netlist.{ports, port, IsPort};
 ghost use Rattle.model.specs.Clauses.{plus};

@@ -1,4 +1,6 @@
 // The calls over a record and its lists in unpacked form: the work of the public calls (crate `calls`).
+#![tactic(auto)]
+
 ghost use Rattle.std.specs.Prelude.{◌≡◌, true, ◌≤◌, length};
 ghost use Rattle.model.specs.Netlist.{ports};
 ghost use Rattle.model.specs.Acceptance.{Accepted};
@@ -16,7 +18,7 @@ use netlist::{Netlist, UnpackedList};
 use refusals::{Refusal, Verdict};
 
 // What a group call answers: how many numbers it wrote, or the refusal with its place.
-#[derive(Drop)]
+#[derive(Clone, Copy)]
 pub enum GroupAnswer {
     Written(usize),
     Refused(Refusal, u32),
@@ -24,7 +26,7 @@ pub enum GroupAnswer {
 
 // What a heading call answers: the heading (RULES G23), the two counts of DIMACS' problem line (the line as text is the header, crate
 // `dimacs`); or the refusal with its place.
-#[derive(Drop)]
+#[derive(Clone, Copy)]
 pub enum HeadingAnswer {
     Heading { variables: u32, clauses: u32 },
     Refused(Refusal, u32),
@@ -32,7 +34,7 @@ pub enum HeadingAnswer {
 
 // What is sent back of a heading call: number and place (0 where it is not refused), and the heading.
 #[repr(C)]
-#[derive(Drop)]
+#[derive(Clone, Copy)]
 pub struct HeadingReply {
     pub number: u32,
     pub place: u32,

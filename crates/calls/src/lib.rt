@@ -1,5 +1,7 @@
 // The public calls over a record and the lists that the caller lends (RULES T40 and T41). Each unpacks the lists and
 // leaves the rest to a call over unpacked lists.
+#![tactic(auto)]
+
 ghost use Rattle.std.specs.Prelude.{◌≡◌, length};
 ghost use Rattle.model.specs.Acceptance.{PathTheorem};
 ghost use Rattle.model.specs.Claim.{EncodingTheorem, StatedTheorem};

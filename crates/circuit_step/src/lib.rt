@@ -1,6 +1,8 @@
 // One frame of the circuit with its whole memory: the values of its wires, and the state that the next frame begins in (RULES C4, C6, C7,
 // C12, C15, C17, C21, C22 and C28). Latches and memory are lent; the words held are a number, the second port's bits above the first's. What
 // holds of them is said of every state of the model that they hold.
+#![tactic(auto)]
+
 ghost use Rattle.std.specs.Prelude.{◌≡◌, ℕ, ◌+◌, ◌^◌, ◌≤◌, ◌<◌, Bool, [], length};
 ghost use Rattle.model.specs.Bits.{bit};
 ghost use Rattle.model.specs.Netlist.{IsPort, port, read_bits, read_wire, last_wire};

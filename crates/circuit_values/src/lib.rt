@@ -1,6 +1,8 @@
 // The values of a frame's wires, in a table that is filled in wire order (RULES W1, C12 and C21).
 //
 // Inputs, latches and read bits are given; the gates are worked out from them. Wire 0 is the constants': always false.
+#![tactic(auto)]
+
 ghost use Rattle.std.specs.Prelude.{◌≡◌, ℕ, ◌+◌, ◌/◌, ◌^◌, ◌≤◌, ◌<◌, [], false, cond, eqb, length};
 ghost use Rattle.model.specs.Bits.{bit};
 ghost use Rattle.model.specs.Netlist.{IsPort, port, gate_wire, last_wire};

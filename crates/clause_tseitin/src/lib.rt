@@ -1,5 +1,7 @@
 // Gates and equalities as clauses (the Tseitin encoding; RULES G1, G4, G6, G10, G12 and G32). Each function writes from the start of
 // what it is lent and answers how many numbers that was.
+#![tactic(auto)]
+
 ghost use Rattle.std.specs.Prelude.{[], ◌∷◌, ◌≤◌, length};
 ghost use Rattle.model.specs.Clauses.{and_clauses, same_clauses, same_if_clauses, same_if_all_clauses, bit_clauses};
 ghost use Rattle.model.specs.Numbers.{written};

@@ -1,5 +1,7 @@
 // The numbers of the variables of a record's frames and pairs, and the literals that two frames have in common: the port of the
 // memory, B(i), Q, N and Z, S (RULES V2 to V5, V8, G9, G11, G37).
+#![tactic(auto)]
+
 ghost use Rattle.std.specs.Prelude.{◌≡◌, ◌≤◌, ◌<◌};
 ghost use Rattle.model.specs.Netlist.{IsPort, port, last_wire};
 ghost use Rattle.model.specs.Variables.{stride, base, pair_base, none_since_of, selected};
@@ -14,7 +16,7 @@ use netlist::Netlist;
 
 // A read port of the memory: its codes, its first read bit and its first variable of a pair, each counted from the first of all
 // ports' (the model's port).
-#[derive(Drop)]
+#[derive(Clone, Copy)]
 pub struct Port {
     pub address: [Code; 12],
     pub re: Code,

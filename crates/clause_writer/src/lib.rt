@@ -2,6 +2,8 @@
 // the numbers already written"). Each function writes from the start of what it is lent and answers how many numbers that was. Here
 // constants are dropped (RULES G28 and G29): a clause with a true literal is not written, and of the others no false one. Only of a
 // clause of any length its group asks first whether a literal is true (`put_some_source`, `put_property`).
+#![tactic(auto)]
+
 ghost use Rattle.std.specs.Prelude.{[], ◌∷◌, ◌+◌, ◌≤◌, length, pos, negsuc};
 ghost use Rattle.model.specs.Numbers.{kept_of, end_of, written};
 ghost use Rattle.literals.specs.Lit.{literal_at, literal_of, IsLit, IsTerm};

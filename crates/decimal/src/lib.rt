@@ -1,4 +1,6 @@
 // Numbers as decimal text and back (RULES S2): one definition, `digits`, says what is written and what is read.
+#![tactic(auto)]
+
 ghost use Rattle.std.specs.Prelude.{◌≡◌, ◌≤◌, length, replicate};
 ghost use Rattle.decimal.specs.Digits.{digits, space, field};
 ghost use Rattle.decimal.specs.WroteAtEnd.{WroteAtEnd};
@@ -7,7 +9,7 @@ ghost use Rattle.decimal.specs.SignedValue.{clause_number_in};
 ghost use Rattle.model.specs.Wrote.{Wrote};
 
 // What a text is read as. A number is at most 4,294,967,295.
-#[derive(Drop)]
+#[derive(Clone, Copy)]
 pub enum Number {
     Value(u32),
     NotANumber,
@@ -48,7 +50,7 @@ pub fn read_number(text: &[u8]) -> Number
 }
 
 // What a word is read as where clause numbers stand. The 0 that ends a clause is one here.
-#[derive(Drop)]
+#[derive(Clone, Copy)]
 pub enum ClauseNumber {
     Value(i32),
     NotANumber,

@@ -1,4 +1,6 @@
 // The bytes that `frames` prints (RULES P2 and P3): header, clauses, refusal.
+#![tactic(auto)]
+
 ghost use Rattle.std.specs.Prelude.{◌≡◌, ◌+◌, ◌≤◌, leb, length};
 ghost use Rattle.model.specs.Wrote.{Wrote};
 ghost use Rattle.text_writer.specs.Table.{TableOrNone};
@@ -13,7 +15,7 @@ use refusals::Refusal;
 use text_writer::{parts_of, write_byte, write_ended, write_signed_spaced, write_word};
 
 // What a call that prints answers: how many bytes it wrote, or a refusal and its place.
-#[derive(Drop)]
+#[derive(Clone, Copy)]
 pub enum PrintAnswer {
     Written(usize),
     Refused(Refusal, u32),

@@ -1,5 +1,7 @@
 // The program `export_aig` (RULES P27 and P28): a sheet on standard input; on standard output the binary AIGER file of its netlist, or one
 // refusal. What is printed is in the crates below; here are only input and output.
+#![tactic(auto)]
+
 ghost use Rattle.std.specs.Prelude.{◌≡◌, true, false};
 ghost use Rattle.program_export.specs.Printed.{export_output};
 

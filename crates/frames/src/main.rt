@@ -1,5 +1,7 @@
 // The program (RULES P1 to P7): a depth line and a sheet on standard input, the formula as DIMACS text
 // or one refusal on standard output. What is read and what is printed is in the crates below; here are only input and output.
+#![tactic(auto)]
+
 ghost use Rattle.std.specs.Prelude.{◌+◌, ◌^◌, ◌≤◌, ◌<◌, ◌≡◌, false, length, take, drop};
 ghost use Rattle.netlist.specs.NetOf.{net_of};
 ghost use Rattle.dimacs.specs.Text.{refusal_text};

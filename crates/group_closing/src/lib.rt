@@ -1,5 +1,7 @@
 // The clauses of the closing of frame i at a port (RULES G11 to G13, G25 and G33): a read of a word that no earlier frame wrote is the
 // start word where one is given, the word of the frame before is held where nothing is read, and a read has some source.
+#![tactic(auto)]
+
 ghost use Rattle.std.specs.Prelude.{◌+◌, ◌*◌, ◌≤◌, ◌<◌, ◌≡◌, false, cond, ◌||◌, [], ◌∷◌, eqb, length};
 ghost use Rattle.model.specs.Bits.{bit};
 ghost use Rattle.model.specs.Netlist.{start_of};

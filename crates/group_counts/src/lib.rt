@@ -1,5 +1,7 @@
 // How many clauses of a depth are written (RULES G23, G28, G34 and G37): counted in what the groups' own writer writes, by one group of each
 // class of groups that have equally many, at each port.
+#![tactic(auto)]
+
 ghost use Rattle.std.specs.Prelude.{◌≡◌, true, [], ◌∷◌, ◌+◌, ◌-◌, ◌*◌, ◌/◌, ◌≤◌, ◌<◌, length};
 ghost use Rattle.model.specs.Netlist.{ports};
 ghost use Rattle.model.specs.Acceptance.{Accepted};

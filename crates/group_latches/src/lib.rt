@@ -1,5 +1,7 @@
 // The clauses of the latches of a frame (RULES G3 and G4): in frame 0 from their resets, later from the frame
 // before. The list is unpacked as the netlist's is.
+#![tactic(auto)]
+
 ghost use Rattle.std.specs.Prelude.{◌+◌, ◌*◌, ◌/◌, ◌≤◌, cond, [], ◌∷◌, eqb, length};
 ghost use Rattle.model.specs.Gather.{gather};
 ghost use Rattle.model.specs.Clauses.{neg, same_clauses};

@@ -1,4 +1,6 @@
 // The order of the groups of a depth (RULES G15 and G37).
+#![tactic(auto)]
+
 ghost use Rattle.std.specs.Prelude.{◌≡◌, ℕ, ◌≤◌, List, ◌∷◌, ◌++◌};
 ghost use Rattle.model.specs.Groups.{in_depth, group_order};
 ghost use Rattle.group_order.specs.Next.{first_group, remaining_after, remaining_from};
@@ -6,7 +8,7 @@ ghost use Rattle.group_order.specs.Next.{first_group, remaining_after, remaining
 use model::Group;
 
 // What comes next in the order of the whole.
-#[derive(Drop)]
+#[derive(Clone, Copy)]
 pub enum Next {
     Then(Group),
     End,

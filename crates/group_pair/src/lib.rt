@@ -1,5 +1,7 @@
 // The clauses of a pair (j, i) of a writing frame j and a reading frame i at a port (RULES G6 to G10 and G32): the address
 // comparison, the three gates, the data bits, and where the start is unknown the agreement of two reads of it.
+#![tactic(auto)]
+
 ghost use Rattle.std.specs.Prelude.{◌+◌, ◌*◌, ◌/◌, ◌≤◌, length};
 ghost use Rattle.model.specs.Gather.{gather};
 ghost use Rattle.model.specs.Netlist.{start_of};

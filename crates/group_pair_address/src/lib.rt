@@ -1,5 +1,7 @@
 // The address comparison of a pair (j, i) at a port (RULES G6, G7 and G38): the clauses of each bit, and the clause that
 // makes E true where all bits are equal. The address of the writing frame is the first port's at either port.
+#![tactic(auto)]
+
 ghost use Rattle.std.specs.Prelude.{◌+◌, ◌*◌, ◌/◌, ◌≤◌, [], ◌∷◌, length};
 ghost use Rattle.model.specs.Gather.{gather};
 ghost use Rattle.model.specs.Clauses.{plus, bit_clauses, address_bit_clauses, unequal_of, all_bits};

@@ -1,4 +1,6 @@
 // The three gates of a pair (j, i) at a port (RULES G8 and G9): which earlier write a read takes.
+#![tactic(auto)]
+
 ghost use Rattle.std.specs.Prelude.{◌++◌, ◌≤◌, length};
 ghost use Rattle.model.specs.Clauses.{neg, and_clauses};
 ghost use Rattle.model.specs.Numbers.{written};

@@ -1,4 +1,6 @@
 // The clause of the property (RULES G14): P is false in some frame from 0 to k.
+#![tactic(auto)]
+
 ghost use Rattle.std.specs.Prelude.{◌≡◌, ◌+◌, ◌≤◌, length};
 ghost use Rattle.model.specs.Gather.{gather};
 ghost use Rattle.model.specs.Acceptance.{WithinLimits};

@@ -1,5 +1,7 @@
 // The clauses of the wires of a frame (RULES G3 to G5): its latches, then its gates. The lists are unpacked as
 // the netlist's are.
+#![tactic(auto)]
+
 ghost use Rattle.std.specs.Prelude.{◌+◌, ◌*◌, ◌/◌, ◌≤◌, cond, [], eqb, length};
 ghost use Rattle.model.specs.Gather.{gather};
 ghost use Rattle.model.specs.Clauses.{and_clauses};

@@ -1,4 +1,6 @@
 // The groups of clauses of a depth (RULES G3 to G14), each written into a borrowed slice.
+#![tactic(auto)]
+
 ghost use Rattle.std.specs.Prelude.{◌≡◌, ◌≤◌, true, length};
 ghost use Rattle.model.specs.Netlist.{ports};
 ghost use Rattle.model.specs.Acceptance.{Accepted};

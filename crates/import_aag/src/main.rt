@@ -1,6 +1,8 @@
 // The program `import_aag` (RULES P18 to P20, P22, P23 and P29): m, n, the start word, which may be left out, and behind it the number of ports, as
 // arguments and an ASCII AIGER text on standard input; on standard output the sheet of its netlist, or one refusal. What is printed is in the crates
 // below; here are only arguments, input and output.
+#![tactic(auto)]
+
 ghost use Rattle.std.specs.Prelude.{◌≡◌, length};
 
 use decimal::Number;

@@ -1,5 +1,7 @@
 // That the property holds for ever, as an answer that is proved (RULES H1 to H6): an inductive invariant is tested at the start, the clauses of one
 // step under it go into a lent store, the lemmas of a refutation behind them, and these are checked by their hints. Nothing that is lent is believed.
+#![tactic(auto)]
+
 ghost use Rattle.std.specs.Prelude.{◌≡◌, ◌++◌, ◌+◌, ◌*◌, ◌/◌, ◌≤◌, length};
 ghost use Rattle.model.specs.Acceptance.{SizesFit};
 ghost use Rattle.model.specs.Wrote.{over};

@@ -1,9 +1,11 @@
 // A law of one step of the circuit (RULES H4): how one is made of terms, and how one of four is picked. Which laws there are is `invariant_axioms`'s.
+#![tactic(auto)]
+
 ghost use Rattle.std.specs.Prelude.{◌≡◌, ◌≤◌};
 ghost use Rattle.invariant_laws.specs.LawForms.{law_of, no_law, false_term, true_term, same, where_true, where_both, where_false, pick};
 
 // Terms: where both guards are false, left and right are equal.
-#[derive(Drop)]
+#[derive(Clone, Copy)]
 pub struct Law {
     pub guard: u64,
     pub second: u64,

@@ -1,5 +1,7 @@
 // The laws of the memory that requests ask for (RULES H4), worked out from a record: reads, words behind the step, and matches of an address with a word's.
 // What each says, and that it holds, is `invariant_axioms`'s.
+#![tactic(auto)]
+
 ghost use Rattle.std.specs.Prelude.{◌≡◌, cond, suc, ◌+◌, ◌*◌, ◌≤◌, ◌<◌};
 ghost use Rattle.model.specs.Acceptance.{SizesFit};
 ghost use Rattle.netlist.specs.NetOf.{alone};

@@ -1,5 +1,7 @@
 // The laws of a step that requests ask for (RULES H4), worked out from a record and its lists: those of the circuit, of the gates and of the invariant's
 // places here, those of the memory by `invariant_memory`. What each says, and that it holds, is `invariant_axioms`'s.
+#![tactic(auto)]
+
 ghost use Rattle.std.specs.Prelude.{◌≡◌, [], ◌≤◌};
 ghost use Rattle.model.specs.Acceptance.{SizesFit};
 ghost use Rattle.netlist.specs.NetOf.{net_of, alone};

@@ -1,4 +1,6 @@
 // The test of an invariant at the start of every run.
+#![tactic(auto)]
+
 ghost use Rattle.std.specs.Prelude.{◌≡◌, [], ◌<◌};
 ghost use Rattle.std.specs.Bool.{beq};
 ghost use Rattle.model.specs.Netlist.{start};

@@ -1,5 +1,7 @@
 // That the property holds for ever (RULES H2): what it means, the bits of a whole state, and the terms in which one step of the circuit is said. A term is a code
 // over the step's variables, counted from 0: twice the variable, and one more where it is negated.
+#![tactic(auto)]
+
 ghost use Rattle.std.specs.Prelude.{◌≡◌, cond, ◌^◌, ◌≤◌, ◌<◌};
 ghost use Rattle.model.specs.Acceptance.{SizesFit};
 ghost use Rattle.netlist.specs.NetOf.{alone};

@@ -1,5 +1,7 @@
 // Wire numbers, codes and clause numbers: three types, never accepted in each other's place (RULES W6 and N1).
 // Between them only a frame converts; a code in a frame may also be a constant. What compares or counts by the numbers inside stands here.
+#![tactic(auto)]
+
 ghost use Rattle.std.specs.Prelude.{◌≡◌, true, ◌+◌, ◌*◌, ◌/◌, ◌^◌, ◌≤◌, ◌<◌, ltb};
 ghost use Rattle.model.specs.Bits.{odd, bit};
 ghost use Rattle.model.specs.Clauses.{known, plus, neg};
@@ -9,20 +11,20 @@ ghost use Rattle.literals.specs.Lit.{literal_at, literal_of, is_number, IsLit, I
 ghost use Rattle.literals.specs.Numbering.{NumberingFits, base_of, pair_base_of};
 
 // An AIG variable, numbered from 1.
-#[derive(Drop)]
+#[derive(Clone, Copy)]
 pub struct Wire(pub u32);
 
 // The customer's "code" (RULES W3): an AIGER literal.
 #[repr(C)]
-#[derive(Drop)]
+#[derive(Clone, Copy)]
 pub struct Code(pub u32);
 
 // The customer's "clause number" (RULES W4): a DIMACS literal, not 0 and not the least i32.
-#[derive(Drop)]
+#[derive(Clone, Copy)]
 pub struct Lit(pub i32);
 
 // What a code is in a clause (RULES G28): a constant, or a literal of a variable.
-#[derive(Drop)]
+#[derive(Clone, Copy)]
 pub enum Term {
     True,
     False,
@@ -30,7 +32,7 @@ pub enum Term {
 }
 
 // What the numbering of variables depends on: V, and how many variables a pair of frames has.
-#[derive(Drop)]
+#[derive(Clone, Copy)]
 pub struct Numbering {
     pub wires: u32,
     pub stride: u32,

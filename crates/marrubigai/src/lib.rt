@@ -1,4 +1,6 @@
 // The library for C and Rust: each public call under its plain name (include/marrubigai.h).
+#![tactic(auto)]
+
 ghost use Rattle.std.specs.Prelude.{◌≡◌, List, ◌∷◌, ◌++◌, length};
 ghost use Rattle.model.specs.Acceptance.{PathTheorem};
 ghost use Rattle.model.specs.Claim.{EncodingTheorem, StatedTheorem};

@@ -18,9 +18,9 @@ start-unknown word zero h = absurd (h refl)
 start-unknown word (suc u) h = refl
 
 -- the word that is given
-pub given_word : (word u : ℕ) → u ≡ 0 → given_word (start_of word u) ≡ word
+pub given_word_lem : (word u : ℕ) → u ≡ 0 → given_word (start_of word u) ≡ word
 unfolding given_word
-given_word word u e = rw (start-given word u e)
+given_word_lem word u e = rw (start-given word u e)
 
 pub unknown-word : (word u : ℕ) → (u ≡ 0 → ⊥) → given_word (start_of word u) ≡ 0
 unfolding given_word

@@ -2,6 +2,8 @@
 //
 // The lists are handed over unpacked: `latches[2 * l]` is latch l's next code and `latches[2 * l + 1]` its reset, `gates[2 * g]`
 // and `gates[2 * g + 1]` are gate g's two codes. What looks at no list speaks of the record `alone`.
+#![tactic(auto)]
+
 ghost use Rattle.std.specs.Prelude.{◌≡◌, suc, ◌+◌, ◌-◌, ◌*◌, ◌^◌, ◌<◌, ◌≤◌};
 ghost use Rattle.model.specs.Netlist.{start_of, ports, read_bits, latch_wire, read_wire, gate_wire, last_wire};
 ghost use Rattle.model.specs.Agree.{given_word};
@@ -19,7 +21,7 @@ pub type UnpackedList = [u32; 1200];
 // All of a netlist but its two lists (RULES W17). `unknown_start` is 1 where the start is unknown (W19), `second_port` where there is a second read port
 // (W22), whose address codes and read enable are the last two.
 #[repr(C)]
-#[derive(Drop)]
+#[derive(Clone, Copy)]
 pub struct Netlist {
     pub inputs: u32,
     pub latches: u32,
@@ -39,7 +41,7 @@ pub struct Netlist {
 }
 
 // A line of a sheet, by what it holds (RULES S5), with its number among those of its letter.
-#[derive(Drop)]
+#[derive(Clone, Copy)]
 pub enum Line {
     Sizes,
     Memory,

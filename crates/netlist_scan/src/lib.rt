@@ -1,5 +1,7 @@
 // Whether any line of a record has a code, gate operand or reset outside its limit (refusal 5). Every call tests its record, and
 // nearly all pass: each loop runs to its end and looks for no place, so that the compiler can take several codes at a time.
+#![tactic(auto)]
+
 ghost use Rattle.std.specs.Prelude.{◌≡◌, ◌≤◌};
 ghost use Rattle.model.specs.Acceptance.{SizesFit};
 ghost use Rattle.netlist.specs.NetOf.{code_of, net_of, alone};

@@ -1,4 +1,6 @@
 // The tests of a record with its lists (RULES T54, "is tested alike").
+#![tactic(auto)]
+
 ghost use Rattle.std.specs.Prelude.{◌≡◌, [], ℕ, ◌/◌, ◌≤◌, ◌<◌};
 ghost use Rattle.model.specs.Circuit.{is_read, depends_on_read};
 ghost use Rattle.model.specs.Search.{first_where};

@@ -1,5 +1,7 @@
 // The program `one_port` (RULES P24 to P26): a sheet on standard input; on standard output the sheet with one port that has its runs, or one
 // refusal. What is printed is in the crates below; here are only input and output.
+#![tactic(auto)]
+
 ghost use Rattle.std.specs.Prelude.{◌≡◌, true, false, length};
 ghost use Rattle.program_one_port.specs.Printed.{one_port_output};
 

@@ -1,4 +1,6 @@
 // What `export_aig` prints (RULES P3 and P28): the binary AIGER file of a sheet's netlist, or a refusal.
+#![tactic(auto)]
+
 ghost use Rattle.std.specs.Prelude.{◌≤◌, length};
 ghost use Rattle.model.specs.Wrote.{Wrote};
 ghost use Rattle.refusals.specs.Refusal.{refusal_number};

@@ -1,4 +1,6 @@
 // What `import_aag` prints (RULES P3, P20 and P23): the sheet of a text's netlist, or a refusal; nothing where a text is too long to be judged.
+#![tactic(auto)]
+
 ghost use Rattle.std.specs.Prelude.{◌≡◌, cond, ◌&&◌, [], ◌∷◌, ◌≤◌, ltb, eqb, length};
 ghost use Rattle.model.specs.Wrote.{Wrote};
 ghost use Rattle.dimacs.specs.Text.{refusal_text};

@@ -1,4 +1,6 @@
 // The program's input: a depth line and a sheet (RULES P1 and P4 to P6).
+#![tactic(auto)]
+
 ghost use Rattle.std.specs.Prelude.{◌≡◌};
 ghost use Rattle.refusals.specs.Tests.{if_passed};
 ghost use Rattle.sheet_steps.specs.Lists.{ListsBeside};
@@ -11,7 +13,7 @@ use refusals::Verdict;
 
 // What an input is read as: a refusal's number and place (both 0 where it is taken), the depth, and the sheet's record. The depth and
 // the record are all zeros at a refusal.
-#[derive(Drop)]
+#[derive(Clone, Copy)]
 pub struct Input {
     pub number: u32,
     pub place: u32,

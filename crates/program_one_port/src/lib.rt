@@ -1,4 +1,6 @@
 // What `one_port` prints (RULES P3 and P25): the sheet with one port, or a refusal.
+#![tactic(auto)]
+
 ghost use Rattle.std.specs.Prelude.{◌≤◌, length};
 ghost use Rattle.model.specs.Wrote.{Wrote};
 ghost use Rattle.sheet_one_port.specs.OnePortCall.{OnePortTheorem};

@@ -1,4 +1,6 @@
 // What `frames` prints (RULES P2 and P3): the header, and the text of all groups of a depth, piece by piece through buffers of fixed size.
+#![tactic(auto)]
+
 ghost use Rattle.std.specs.Prelude.{◌≡◌, List, ℕ, ◌≤◌, length};
 ghost use Rattle.model.specs.Netlist.{ports};
 ghost use Rattle.model.specs.Acceptance.{Accepted};
@@ -18,7 +20,7 @@ use model::Group;
 use netlist::{Netlist, UnpackedList};
 
 // The first `bytes` bytes of a buffer are text to be printed; the group after those printed.
-#[derive(Drop)]
+#[derive(Clone, Copy)]
 pub struct Piece {
     pub bytes: usize,
     pub next: Next,

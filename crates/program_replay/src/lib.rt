@@ -1,4 +1,6 @@
 // What `replay` prints (RULES P3 and P13 to P15): the first line, and the lines of all frames behind it.
+#![tactic(auto)]
+
 ghost use Rattle.std.specs.Prelude.{◌≡◌, cond, List, ◌++◌, ℕ, ◌+◌, ◌≤◌, length};
 ghost use Rattle.model.specs.Wrote.{Wrote};
 ghost use Rattle.model.specs.Acceptance.{SizesFit, Accepted};

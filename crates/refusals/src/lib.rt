@@ -1,9 +1,11 @@
 // The numbered errors (RULES T1 to T19), and what a chain of tests answers.
+#![tactic(auto)]
+
 ghost use Rattle.std.specs.Prelude.{◌≡◌};
 ghost use Rattle.refusals.specs.Refusal.{refusal_number, reply_of};
 
 // A case for each word of the table, in its order. 10 had no input left that meets it, and its number is not used again.
-#[derive(Drop)]
+#[derive(Clone, Copy)]
 pub enum Refusal {
     Ragged,
     Misprint,
@@ -26,14 +28,14 @@ pub enum Refusal {
 }
 
 // What a chain of tests answers: none refuses, or the first that does, with its place (0: none).
-#[derive(Drop)]
+#[derive(Clone, Copy)]
 pub enum Verdict {
     Passed,
     Refused(Refusal, u32),
 }
 
 // A verdict in numbers (RULES N9), both 0 where no test refuses.
-#[derive(Drop)]
+#[derive(Clone, Copy)]
 pub struct Reply {
     pub number: u32,
     pub place: u32,
@@ -42,7 +44,7 @@ pub struct Reply {
 // What is sent back of a call that writes into a slice: number (0 where it is not refused), place, and how many numbers or bytes
 // were written.
 #[repr(C)]
-#[derive(Drop)]
+#[derive(Clone, Copy)]
 pub struct CountReply {
     pub number: u32,
     pub place: u32,

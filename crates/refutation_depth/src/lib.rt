@@ -1,5 +1,7 @@
 // No run to depth k, as an answer that is proved (RULES U1 to U8): the formula of an input's depth goes into a lent store, the lemmas of a refutation
 // behind it, and these are checked by their hints. Nothing that is lent is believed.
+#![tactic(auto)]
+
 ghost use Rattle.std.specs.Prelude.{◌≡◌, ◌++◌, ◌+◌, ◌≤◌, length};
 ghost use Rattle.model.specs.Acceptance.{SizesFit, Accepted};
 ghost use Rattle.model.specs.Numbers.{formula};
@@ -16,7 +18,7 @@ use refutation_lemmas::Checked;
 // What a check of a certificate answers: number and place (0 where it is not refused); 1 where the depth is certified; where it is not, the first lemma
 // that does not follow by its hints, counted from 0.
 #[repr(C)]
-#[derive(Drop)]
+#[derive(Clone, Copy)]
 pub struct CertificateReply {
     pub number: u32,
     pub place: u32,

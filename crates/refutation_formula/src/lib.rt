@@ -1,5 +1,7 @@
 // The formula of a depth (RULES A2) in one slice, its groups one behind the other in the order of the whole; and how many numbers it has, whether
 // there is room for it or not.
+#![tactic(auto)]
+
 ghost use Rattle.std.specs.Prelude.{◌≡◌, true, ◌≤◌, length};
 ghost use Rattle.model.specs.Netlist.{ports};
 ghost use Rattle.model.specs.Acceptance.{Accepted};

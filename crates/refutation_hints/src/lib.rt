@@ -1,4 +1,6 @@
 // Whether a lemma follows by hints from the clauses known: unit propagation along them, with marks that hold what is false. Nothing is believed of any of it.
+#![tactic(auto)]
+
 ghost use Rattle.std.specs.Prelude.{◌≡◌, true, cond, ◌/◌, ◌≤◌, eqb, ℤ, neg_ℤ, length, drop};
 ghost use Rattle.model.specs.Numbers.{clauses_in};
 ghost use Rattle.answer_signs.specs.Signs.{among};

@@ -1,5 +1,7 @@
 // A refutation checked by hints. A store of clause numbers holds the clauses of a formula and, behind them, lemmas, each ended by 0, the last
 // one empty; the hints say for each lemma how many they are, and then at which places of the store clauses start. Nothing is believed of any of it.
+#![tactic(auto)]
+
 ghost use Rattle.std.specs.Prelude.{◌≡◌, ◌&&◌, ◌+◌, ◌-◌, ◌/◌, ◌≤◌, leb, length, take, drop};
 ghost use Rattle.refutation_hints.specs.Propagation.{follows};
 ghost use Rattle.refutation_hints.specs.Marks.{UpTo, Before};
@@ -7,7 +9,7 @@ ghost use Rattle.refutation_lemmas.specs.Refutation.{checked, Unsatisfiable};
 ghost use Rattle.refutation_lemmas.specs.Ends.{before_end};
 
 // What a check finds: the formula is refuted, or the first lemma that does not follow by its hints, counted from 0.
-#[derive(Drop)]
+#[derive(Clone, Copy)]
 pub enum Checked {
     Refuted,
     Unjustified(usize),

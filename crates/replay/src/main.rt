@@ -1,6 +1,8 @@
 // The program `replay` (RULES P11 to P15): a depth line and a sheet on standard input and a solver's answer in the file `answer`; on standard
 // output the first frame that breaks the property and the lines of the run, or the answer's claim, or one refusal. What is read and what is
 // printed is in the crates below; here are only input and output.
+#![tactic(auto)]
+
 ghost use Rattle.std.specs.Prelude.{ℕ, ◌+◌, ◌^◌, ◌≤◌, ◌<◌, ◌≡◌, true, false, List, [], length};
 ghost use Rattle.dimacs.specs.Text.{refusal_text};
 ghost use Rattle.answer_signs.specs.Signs.{SignsOf};

@@ -1,5 +1,7 @@
 // The replay of a solver's answer from its text, over a record and unpacked lists: the answer is read in one piece, and what it says is run
 // (RULES Q1 to Q7, Y1, Y5 to Y8 and Y11 to Y14).
+#![tactic(auto)]
+
 ghost use Rattle.std.specs.Prelude.{◌≡◌, [], length};
 ghost use Rattle.netlist.specs.NetOf.{net_of};
 ghost use Rattle.answer_signs.specs.Signs.{SignsOf};

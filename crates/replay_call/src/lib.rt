@@ -1,5 +1,7 @@
 // The replay of a solver's answer as a call over a record and unpacked lists: its tests in their order, what it answers, and what it leaves in
 // the lent memory and the lent trace (RULES Y1, Y5 to Y8, Y11 to Y14, T14, T15 and T49).
+#![tactic(auto)]
+
 ghost use Rattle.std.specs.Prelude.{◌≡◌, ◌≤◌, length};
 ghost use Rattle.model.specs.Acceptance.{SizesFit};
 ghost use Rattle.netlist.specs.NetOf.{net_of, alone};
@@ -16,7 +18,7 @@ use netlist::{Netlist, UnpackedList};
 use refusals::{Refusal, Verdict};
 
 // What a replay answers: the first frame that breaks the property; that the answer claims there is none; or the refusal with its place.
-#[derive(Drop)]
+#[derive(Clone, Copy)]
 pub enum ReplayAnswer {
     Broken(u32),
     ClaimedUnsatisfiable,
@@ -26,7 +28,7 @@ pub enum ReplayAnswer {
 // The same in numbers: number and place of a refusal, both 0 where nothing is refused; 1 where the answer claims that there is none; and
 // the first frame that breaks the property.
 #[repr(C)]
-#[derive(Drop)]
+#[derive(Clone, Copy)]
 pub struct ReplayReply {
     pub number: u32,
     pub place: u32,

@@ -1,5 +1,7 @@
 // One frame of a replay: the circuit is fed what an answer says of the frame's inputs, in frame 0 also of the idle words; a word of an unknown
 // start that it reads is filled as the answer says; and it is stepped (RULES Y11 to Y13).
+#![tactic(auto)]
+
 ghost use Rattle.std.specs.Prelude.{◌≡◌, ℕ, suc, ◌+◌, ◌^◌, ◌≤◌, ◌<◌, not, ◌&&◌, [], length};
 ghost use Rattle.model.specs.Bits.{bit, from_bits};
 ghost use Rattle.model.specs.Search.{any_below};
@@ -19,7 +21,7 @@ use circuit_values::{SourceValues, WireValues};
 use netlist::{Netlist, UnpackedList};
 
 // What a frame of a replay shows: that it is fed something unclear, and that it breaks the property.
-#[derive(Drop)]
+#[derive(Clone, Copy)]
 pub struct FrameVerdict {
     pub fault: bool,
     pub broken: bool,
@@ -29,7 +31,7 @@ pub struct FrameVerdict {
 pub type TouchedWords = [bool; 4096];
 
 // A frame that was stepped: the words held behind it, and whether it filled a word.
-#[derive(Drop)]
+#[derive(Clone, Copy)]
 pub struct FrameStepped {
     pub held: u64,
     pub filled: bool,

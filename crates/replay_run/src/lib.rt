@@ -1,4 +1,6 @@
 // The replay of an answer through all frames of a depth, from the initial state (RULES Y5 and Y11 to Y14).
+#![tactic(auto)]
+
 ghost use Rattle.std.specs.Prelude.{◌≡◌, ℕ, ◌+◌, ◌*◌, ◌^◌, ◌≤◌, ◌<◌, false, [], eqb, length, drop};
 ghost use Rattle.model.specs.Wrote.{Wrote};
 ghost use Rattle.model.specs.Netlist.{start, last_wire};
@@ -18,14 +20,14 @@ use netlist::{Netlist, UnpackedList};
 use replay_frame::{FrameVerdict, TouchedWords};
 
 // What a run shows: whether it is fed something unclear, and the first frame that breaks the property, one past the last if none does.
-#[derive(Drop)]
+#[derive(Clone, Copy)]
 pub struct RunVerdict {
     pub fault: bool,
     pub first: u32,
 }
 
 // One frame of a run: what it shows, and the words held behind it.
-#[derive(Drop)]
+#[derive(Clone, Copy)]
 pub struct FrameRun {
     pub shown: FrameVerdict,
     pub held: u64,

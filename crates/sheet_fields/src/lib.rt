@@ -1,11 +1,13 @@
 // Fields of ten columns (RULES S2, S3 and S9): empty, a number behind spaces, or neither.
+#![tactic(auto)]
+
 ghost use Rattle.std.specs.Prelude.{◌≡◌};
 ghost use Rattle.sheet_fields.specs.Fields.{drop_spaces, field_of};
 
 use decimal::Number;
 
 // What ten columns are read as (RULES S2 and S3): nothing, a number, or neither.
-#[derive(Drop)]
+#[derive(Clone, Copy)]
 pub enum Field {
     Empty,
     Filled(u32),

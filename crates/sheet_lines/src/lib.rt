@@ -1,4 +1,6 @@
 // Lines of 32 bytes: a letter, three fields of ten columns, a line feed (RULES S1); and the depth line (RULES P1).
+#![tactic(auto)]
+
 ghost use Rattle.std.specs.Prelude.{◌≡◌, ◌<◌};
 ghost use Rattle.refusals.specs.Refusal.{reply_of};
 ghost use Rattle.sheet_lines.specs.Letters.{letter_of, kind_of, row_of, second_port_of, content_of, ContentsAsPrinted};
@@ -9,7 +11,7 @@ use refusals::{Refusal, Verdict};
 use sheet_fields::Field;
 
 // Which line it is: the letters of RULES S5 in their order, and any other.
-#[derive(Drop)]
+#[derive(Clone, Copy)]
 pub enum Kind {
     Sizes,
     Memory,
@@ -25,7 +27,7 @@ pub enum Kind {
 }
 
 // A line as it is read: its kind, three numbers, 0 where a field is empty, and 1 where its third field may be filled and is empty.
-#[derive(Drop)]
+#[derive(Clone, Copy)]
 pub enum ParsedLine {
     Misprint,
     Read {
@@ -38,7 +40,7 @@ pub enum ParsedLine {
 }
 
 // What the depth line is read as: the verdict of its tests, and the depth, 0 where one refuses.
-#[derive(Drop)]
+#[derive(Clone, Copy)]
 pub struct DepthLine {
     pub verdict: Verdict,
     pub depth: u32,

@@ -1,5 +1,7 @@
 // A sheet with two ports of which nothing uses the second, converted to one with one port (RULES O1 to O5): read, tested, renumbered in
 // place and written.
+#![tactic(auto)]
+
 ghost use Rattle.std.specs.Prelude.{◌≡◌, ℕ, ◌<◌, eqb, length};
 ghost use Rattle.model.specs.Acceptance.{SizesFit};
 ghost use Rattle.model.specs.OnePort.{names_second, one_code};

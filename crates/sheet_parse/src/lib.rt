@@ -1,5 +1,7 @@
 // The sheet reader, which carries the file and its own line number (RULES S10 and L2), and what one answer of it more does to the record
 // and the lists (RULES S5, S7, S13, S14 and T53). The loop over its answers is crate `sheet_loop`.
+#![tactic(auto)]
+
 ghost use Rattle.std.specs.Prelude.{◌≡◌, ◌+◌, ◌*◌, ◌≤◌, length};
 ghost use Rattle.netlist.specs.NetOf.{net_of, alone};
 ghost use Rattle.sheet_steps.specs.Steps.{Outcome, SizesKnown};
@@ -18,7 +20,7 @@ use sheet_steps::SheetAnswer;
 // What is sent back of a line: number and place (0 where it is not refused), its letter, its fields, whether the third is empty and may
 // be filled, and how many lines are read with it. An empty field is 0; letter and fields are 0 beside a refusal, and where there is no line.
 #[repr(C)]
-#[derive(Drop)]
+#[derive(Clone, Copy)]
 pub struct LineReply {
     pub number: u32,
     pub place: u32,
@@ -32,7 +34,7 @@ pub struct LineReply {
 
 // What is answered of a line: its kind, three numbers, 0 where a field is empty, and 1 where its third field may be filled and is empty;
 // a refusal with its place; or that there is none.
-#[derive(Drop)]
+#[derive(Clone, Copy)]
 pub enum LineAnswer {
     Line {
         kind: Kind,
@@ -46,7 +48,7 @@ pub enum LineAnswer {
 }
 
 // An answer, and how many lines are read with it.
-#[derive(Drop)]
+#[derive(Clone, Copy)]
 struct LineAfter {
     line: LineAnswer,
     lines_read: u32,
@@ -126,14 +128,14 @@ fn line_after(file: &[u8], line: u32) -> LineAfter
 }
 
 // A file, and how many of its lines are read.
-#[derive(Drop)]
+#[derive(Clone, Copy)]
 pub struct SheetReader<'a> {
     pub file: &'a [u8],
     pub line: u32,
 }
 
 // What is answered of a line, and the reader behind it.
-#[derive(Drop)]
+#[derive(Clone, Copy)]
 pub struct NextLine<'a> {
     pub line: LineAnswer,
     pub reader: SheetReader<'a>,
@@ -156,7 +158,7 @@ impl<'a> SheetReader<'a> {
 }
 
 // How far a sheet is read: whether there may be one line more, and what the lines so far are answered with.
-#[derive(Drop)]
+#[derive(Clone, Copy)]
 pub struct Progress {
     pub more: bool,
     pub sheet: SheetAnswer,

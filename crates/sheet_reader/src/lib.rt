@@ -1,4 +1,6 @@
 // `read` into lent lists of records (RULES T45). It takes the lists apart and leaves the work to functions over plain slices.
+#![tactic(auto)]
+
 ghost use Rattle.std.specs.Prelude.{◌≡◌};
 ghost use Rattle.model.specs.Acceptance.{PathTheorem};
 ghost use Rattle.refusals.specs.Refusal.{reply_of};

@@ -2,6 +2,8 @@
 // the lists.
 //
 // The lists are unpacked and of full length: 600 records of two codes each.
+#![tactic(auto)]
+
 ghost use Rattle.std.specs.Prelude.{◌≡◌, ◌<◌, ltb};
 ghost use Rattle.netlist.specs.NetOf.{net_of, alone};
 ghost use Rattle.netlist.specs.Places.{line_at, control_line};
@@ -18,7 +20,7 @@ use refusals::{Refusal, Verdict};
 use sheet_lines::Kind;
 
 // What a sheet is read as: the verdict of its tests, and the record, all zeros at a refusal.
-#[derive(Drop)]
+#[derive(Clone, Copy)]
 pub struct SheetAnswer {
     pub verdict: Verdict,
     pub net: Netlist,

@@ -1,5 +1,7 @@
 // The tests of a sheet, a netlist file of fixed columns, and what it is read as, over unpacked lists (RULES S1 to S5, S7, S13, S14,
 // T53 and T34 to T37).
+#![tactic(auto)]
+
 ghost use Rattle.std.specs.Prelude.{◌≡◌, [], ◌≤◌};
 ghost use Rattle.netlist.specs.NetOf.{net_of};
 ghost use Rattle.sheet_steps.specs.Steps.{Outcome};

@@ -1,1 +1,2 @@
 // The sheet of a netlist, as a text.
+#![tactic(auto)]

@@ -1,4 +1,6 @@
 // The sheet written back from a record and unpacked lists (RULES B1 to B6): line by line, each by the table of letters.
+#![tactic(auto)]
+
 ghost use Rattle.std.specs.Prelude.{◌≡◌, cond, ℕ, ◌*◌, ◌≤◌, ◌<◌, length};
 ghost use Rattle.model.specs.Acceptance.{SizesFit};
 ghost use Rattle.model.specs.Wrote.{Wrote};
@@ -21,7 +23,7 @@ use sheet_lines::{Kind, MAY_BE_EMPTY, MUST_BE_FILLED};
 use text_writer::{write_byte, write_word};
 
 // A line to be printed: its kind and three numbers, 0 where a field is always empty; and 1 where one that may be filled is to be left empty.
-#[derive(Drop)]
+#[derive(Clone, Copy)]
 pub struct PrintedLine {
     pub kind: Kind,
     pub first: u32,

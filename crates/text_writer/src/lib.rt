@@ -1,5 +1,7 @@
 // Text written into a borrowed slice: a byte, a word, and numbers with a space behind them, fast where a table of all groups of four
 // digits is at hand.
+#![tactic(auto)]
+
 ghost use Rattle.std.specs.Prelude.{◌≡◌, [], ◌∷◌, ◌++◌, ◌+◌, ◌≤◌, ◌<◌, ◌/◌, ◌%◌, length};
 ghost use Rattle.decimal.specs.Digits.{digits, space, signed_digits};
 ghost use Rattle.model.specs.Wrote.{Wrote};
@@ -206,7 +208,7 @@ fn write_spaced(out: &mut [u8], x: u32, table: &[u8]) -> usize
 }
 
 // A signed number taken apart: how many bytes its sign takes, and the number without it.
-#[derive(Drop)]
+#[derive(Clone, Copy)]
 pub struct Parts {
     pub sign: usize,
     pub value: u32,

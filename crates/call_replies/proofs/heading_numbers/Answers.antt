@@ -1,0 +1,12 @@
+-- `call_replies::heading_numbers` meets its contract: each arm knows its answer.
+
+use Rattle.call_unpacked.specs.Calls.{heading_reply, with_heading}
+use Rattle.call_replies.proofs.heading_numbers.Goals as goal
+
+pub returns-in-Heading : goal.returns-in-Heading
+unfolding heading_reply with_heading
+returns-in-Heading c = rw c.in-Heading.is
+
+pub returns-in-Refused : goal.returns-in-Refused
+unfolding heading_reply with_heading
+returns-in-Refused c = rw (c.in-Refused.is, c.number.ensures)

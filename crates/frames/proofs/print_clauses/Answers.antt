@@ -1,0 +1,89 @@
+-- `frames::print_clauses` meets its contract. The loop's invariant: what was written is the output up to the group that comes next, whose text and
+-- that of the groups behind it is due. Each piece leaves fewer groups, so the loop ends; and no piece is longer than its buffer, so the count fits.
+
+use Prim.Native.Nat.{◌≤◌}
+use mathlib.Core.Path.{◌≡◌, sym, ◌∙◌}
+use native.Mathlib.Omega.{arith}
+use borrow.Author.Rules.{rules}
+use mathlib.Core.List.{[]}
+use lib.ListN.{length, take}
+use lib.Seq.{length-take-le}
+use Rattle.model.specs.Netlist.{ports}
+use Rattle.netlist.specs.NetOf.{net_of, alone}
+use Rattle.netlist.proofs.NetOf.{sizes-lists}
+use Rattle.text_writer.proofs.Table.{filled-table}
+use Rattle.group_order.specs.declared.Next.TheVariants.{Then}
+use Rattle.group_order.proofs.Remaining.{first-remaining}
+use Rattle.program_output.specs.Printed.{frames_text}
+use Rattle.program_output.specs.Pieces.{Continues}
+use Rattle.program_output.proofs.Pieces.{due-order_has}
+use Rattle.program_output.proofs.Printed.{taken-frames, PrintedSo, header-printed, piece-stands, piece-printed, all-printed}
+use Rattle.frames.proofs.print_clauses.Goals as goal
+use Rattle.frames.proofs.print_clauses.Goals.{After-print_groups-piece, In-Then}
+
+pub loop-next-init : goal.loop-next-init
+loop-next-init c =
+    let taken = c.requires.0 in
+    let sizes = sizes-lists c.args.taken.net c.args.latches.now c.args.gates.now [] [] (rw taken.net-is taken.accepted.limits.sizes) in
+    let ports-most : ports (alone c.args.taken.net) ≤ 2 = omega (arith, sizes.kind_fits) in (
+      search rules,
+      search rules,
+      filled-table _ _ (search rules) c.fill_table.ensures,
+      header-printed (taken-frames taken) c.requires.1 (c.first_group-next.ensures _),
+      omega (arith, c.requires.2, first-remaining (ports (alone c.args.taken.net)) c.args.taken.depth c.first_group-next.result ports-most taken.depth-most (c.first_group-next.ensures _)),
+    )
+
+-- the group that comes next is due
+so_far : (c : In-Then) →
+    PrintedSo (frames_text c.args.input.now) (net_of c.args.taken.net c.args.latches.now c.args.gates.now) c.args.taken.depth c.loop-next.sent (Then c.in-Then.group)
+so_far c = rw c.in-Then.is at c.loop-next.invariant.3
+
+pub print_groups-piece-requires : goal.print_groups-piece-requires
+print_groups-piece-requires c =
+    let taken = c.requires.0 in
+    (rw taken.net-is taken.accepted, taken.depth-most, due-order_has (so_far (goal.at.print_groups-piece-requires c).In-Then).text-due, λ long. c.loop-next.invariant.2, omega (arith, c.loop-next.invariant.1), omega (arith, c.loop-next.invariant.0))
+
+-- the text is within its buffer
+module _ (c : After-print_groups-piece) where
+  within : c.print_groups-piece.result.bytes ≤ length c.print_groups-piece.new.text
+  within = omega (arith, c.print_groups-piece.ensures.ends.1.0, c.print_groups-piece.auto.0)
+
+  -- which is as long as it was
+  most : length (take c.print_groups-piece.result.bytes c.print_groups-piece.new.text) ≤ 131072
+  most =
+      let counted : length (take c.print_groups-piece.result.bytes c.print_groups-piece.new.text) ≡ c.print_groups-piece.result.bytes = length-take-le _ _ within in
+      omega (arith, counted, c.print_groups-piece.ensures.ends.1.0, c.loop-next.invariant.0)
+
+  -- and the piece is the text that is next
+  continues : Continues (net_of c.args.taken.net c.args.latches.now c.args.gates.now) c.args.taken.depth (so_far c⟨After-known_told⟩).due c.print_groups-piece.new.text c.print_groups-piece.result
+  continues = c.print_groups-piece.ensures.text _ (so_far c⟨After-known_told⟩).text-due
+
+pub slice_bounds-text-end : goal.slice_bounds-text-end
+slice_bounds-text-end c = within (goal.at.slice_bounds-text-end c).After-print_groups-piece
+
+pub slice_bounds-write_next-end : goal.slice_bounds-write_next-end
+slice_bounds-write_next-end c = sym (length-take-le _ _ (within (goal.at.slice_bounds-write_next-end c).After-print_groups-piece))
+
+pub write_next-requires : goal.write_next-requires
+write_next-requires c =
+    (
+      piece-stands (so_far (goal.at.write_next-requires c).In-Then) (continues (goal.at.write_next-requires c).After-print_groups-piece),
+      omega (arith, c.loop-next.invariant.4, most (goal.at.write_next-requires c).After-print_groups-piece),
+    )
+
+pub loop-next-smaller : goal.loop-next-smaller
+loop-next-smaller c = rw c.in-Then.is (omega (arith, c.print_groups-piece.ensures.ends.0))
+
+pub loop-next-preserved : goal.loop-next-preserved
+loop-next-preserved c =
+    let sent = c.write_next.ensures in
+    let fewer = c.print_groups-piece.ensures.ends.0 in (
+      c.print_groups-piece.auto.0 ∙ c.loop-next.invariant.0,
+      c.print_groups-piece.auto.1.0 ∙ c.loop-next.invariant.1,
+      c.loop-next.invariant.2,
+      rw sent (piece-printed (so_far (goal.at.loop-next-preserved c).In-Then) (continues (goal.at.loop-next-preserved c).After-print_groups-piece)),
+      omega (arith, sent, rw c.in-Then.is at c.loop-next.invariant.4, fewer, most (goal.at.loop-next-preserved c).After-print_groups-piece),
+    )
+
+pub returns : goal.returns
+returns c = all-printed (rw c.in_default.is at c.loop-next.invariant.3)

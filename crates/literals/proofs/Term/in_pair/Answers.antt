@@ -1,0 +1,9 @@
+-- `literals::Term::in_pair` meets its contract.
+
+use borrow.Author.Rules.{rules}
+use Rattle.literals.specs.Lit.{literal_of}
+use Rattle.literals.proofs.Term.in_pair.Goals as goal
+
+pub returns : goal.returns
+unfolding literal_of
+returns c = c.variable.ensures

@@ -1,0 +1,19 @@
+-- `netlist::first_gate_wire` meets its contract: the sizes are within their limits, so the sum fits.
+
+use native.Mathlib.Omega.{arith}
+use Rattle.netlist.specs.NetOf.{net_of}
+use Rattle.netlist.proofs.first_gate_wire.Goals as goal
+
+pub first_read_wire-requires : goal.first_read_wire-requires
+first_read_wire-requires c = c.requires
+
+pub read_count-requires : goal.read_count-requires
+read_count-requires c = c.requires
+
+pub offset-requires : goal.offset-requires
+unfolding net_of
+offset-requires c = omega arith
+
+pub returns : goal.returns
+unfolding net_of
+returns c = omega arith

@@ -1,0 +1,17 @@
+-- `one_port::print_answer` meets its contract: what was written into the buffer is all that is to be printed.
+
+use mathlib.Core.Path.{sym}
+use lib.Seq.{length-take-le}
+use Rattle.group_counts.proofs.Counted.{wrote-front}
+use borrow.Author.Rules.{rules}
+use Rattle.one_port.proofs.print_answer.Goals as goal
+
+pub slice_bounds-sheet-end : goal.slice_bounds-sheet-end
+slice_bounds-sheet-end c = search rules
+
+pub slice_bounds-write_text-end : goal.slice_bounds-write_text-end
+slice_bounds-write_text-end c = sym (length-take-le _ _ (slice_bounds-sheet-end (goal.at.slice_bounds-write_text-end c).After-write_text-arg-1))
+
+pub write_text-requires : goal.write_text-requires
+write_text-requires c =
+    (wrote-front c.write_output-bytes.ensures.text, c.requires)

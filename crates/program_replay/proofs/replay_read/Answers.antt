@@ -1,0 +1,12 @@
+-- `program_replay::replay_read` meets its contract: what the table says is what the text says.
+
+use mathlib.Core.Path.{◌∙◌}
+use Rattle.replay_answer.proofs.ReplayAnswer.{replay-is, memory-is, trace-is}
+use Rattle.program_replay.proofs.replay_read.Goals as goal
+
+pub returns : goal.returns
+returns c =
+    let told = c.replay.ensures in (
+      (λ text read. c.reply_of.ensures ∙ told.0 ∙ replay-is _ _ _ _ read _ _),
+      ((λ text read. told.1.0 ∙ memory-is _ _ _ _ read _ _), (λ text read. told.1.1.0 ∙ trace-is _ _ _ _ read _ _)),
+    )

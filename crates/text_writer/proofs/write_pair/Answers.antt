@@ -1,0 +1,17 @@
+-- `text_writer::write_pair` meets its contract: both bytes come from the table.
+
+use native.Mathlib.Omega.{arith}
+use Rattle.text_writer.proofs.Table.{length-table, wrote-pair-by}
+use Rattle.text_writer.proofs.write_pair.Goals as goal
+
+pub bounds-table-i : goal.bounds-table-i
+bounds-table-i c =
+    omega (arith, length-table c.args.table.now c.requires.0)
+
+pub bounds-table-i-2 : goal.bounds-table-i-2
+bounds-table-i-2 c =
+    omega (arith, length-table c.args.table.now c.requires.0)
+
+pub returns : goal.returns
+returns c =
+    wrote-pair-by c.args.table.now c.requires.0 c.args.x c.args.out.now c.requires.1 c.requires.2
