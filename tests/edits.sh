@@ -110,17 +110,19 @@ opened() { # log
     }' "$1"
 }
 
-# whether the first error, or a goal that the search left open, is the fact
-is_refused_at() { # log, errors, fact
-  local name=${3##*/} errors=$2 function=
+# The first error, of all or of the fact's function, or else the goals that the search left open there, one a line.
+refused_at() { # log, errors, fact
+  local errors=$2 function=
   case "$3" in
     */*)
       function=${3%/*}
       errors=$(grep -E "^(\./)?proofs/$function/[^/]*\.antt:" <<<"$errors")
       ;;
   esac
-  if [ -n "$errors" ]; then head -n 1 <<<"$errors" | grep -vE "$misfit" | grep -qF "error: \`$name\`"; return; fi
-  opened "$1" | awk -v function_="$function" -v name="$name" '(function_ == "" || $1 == function_) && $2 == name { found = 1 } END { exit !found }'
+  if [ -n "$errors" ]; then head -n 1 <<<"$errors"; else opened "$1" | awk -v function_="$function" 'function_ == "" || $1 == function_ { print "open: `" $2 "`" }'; fi
+}
+is_refused_at() { # log, errors, fact
+  refused_at "$@" | grep -vE "$misfit" | grep -qF -e "error: \`${3##*/}\`" -e "open: \`${3##*/}\`"
 }
 
 judge() { # edit file
@@ -143,7 +145,7 @@ judge() { # edit file
   if grep -qE "$misfit" <<<"$first"; then echo "$crate/$label: the proof file no longer fits: ${first:0:240}"; return 1; fi
   while IFS= read -r at; do
     is_refused_at "$log" "$errors" "$at" ||
-      { echo "$crate/$label: not refused at $at: ${first:0:240}; open: $(opened "$log" | head -n 6 | tr '\n' ',' | tr ' ' /)"; return 1; }
+      { echo "$crate/$label: not refused at $at, but: $(refused_at "$log" "$errors" "$at" | cut -c 1-200 | tr '\n' ' ')"; return 1; }
   done < <(sed -n 's/^# refused at: *//p' "$1")
 }
 

@@ -386,8 +386,11 @@ enum Wrong {
 }
 
 /// What the replaced text is: a definition where it stands in specs/; in src/ a promise where it stands in a contract, and else code.
-/// None of an import, which only goes with what uses it.
+/// None of an import, which only goes with what uses it, nor of a proof file, where an answer takes its goal's other name.
 fn wrong_of(path: &str, source: &str, at: usize) -> Option<Wrong> {
+    if path.starts_with("proofs/") {
+        return None;
+    }
     let line = source[source[..at].rfind('\n').map_or(0, |end| end + 1)..].trim_start();
     if line.starts_with("use ") || line.starts_with("ghost use ") {
         return None;
