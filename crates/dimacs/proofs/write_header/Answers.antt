@@ -34,10 +34,10 @@ room-first c = front-room (problem ++ variables c) (clauses c) (length (old c)) 
 -- the first two are written
 both :
     (c : After-write_ended) →
-    Wrote (problem ++ variables c⟨Start⟩) (old c⟨Start⟩)
+    Wrote (problem ++ (digits c.args.variables ++ space ∷ [])) c.args.out.now
     (put_mid c.write_word-before.result (length c.write_word-before.new.out - c.write_word-before.result) c.write_word-before.new.out c.write_ended.new.out) (c.write_word-before.result + c.write_ended.result)
 both c =
-    wrote_then problem (variables c⟨Start⟩) (old c⟨Start⟩) c.write_word-before.new.out c.write_ended.new.out c.write_word-before.result c.write_ended.result c.write_word-before.ensures c.write_ended.ensures
+    wrote_then problem (digits c.args.variables ++ space ∷ []) c.args.out.now c.write_word-before.new.out c.write_ended.new.out c.write_word-before.result c.write_ended.result c.write_word-before.ensures c.write_ended.ensures
 
 pub write_word-before-requires : goal.write_word-before-requires
 write_word-before-requires c =

@@ -54,7 +54,7 @@ loop-i-smaller c = omega arith
 pub loop-i-preserved : goal.loop-i-preserved
 loop-i-preserved c =
     let numbers : List ℤ = c.args.numbers.now in
-    (omega arith, c.write_number-at.auto.0 ∙ c.loop-i.invariant.1, rw (add-one, clause_text-next numbers c.loop-i.i (omega arith)) (next (goal.at.loop-i-preserved c).After-write_number-at))
+    (omega arith, c.write_number-at.auto.out ∙ c.loop-i.invariant.1, rw (add-one, clause_text-next numbers c.loop-i.i (omega arith)) (next (goal.at.loop-i-preserved c).After-write_number-at))
 
 pub returns : goal.returns
 returns c =

@@ -38,19 +38,19 @@ room-number c = front-room (refused ++ number c) (place c) (length (old c)) (roo
 -- the word and the number are written
 numbered :
     (c : After-put_field) →
-    Wrote (refused ++ number c⟨Start⟩) (old c⟨Start⟩)
+    Wrote (refused ++ field c.args.number) c.args.out.now
     (put_mid c.write_word-before.result (length c.write_word-before.new.out - c.write_word-before.result) c.write_word-before.new.out c.put_field.new.out) (c.write_word-before.result + c.put_field.result)
 numbered c =
-    wrote_then refused (number c⟨Start⟩) (old c⟨Start⟩) c.write_word-before.new.out c.put_field.new.out c.write_word-before.result c.put_field.result c.write_word-before.ensures c.put_field.ensures
+    wrote_then refused (field c.args.number) c.args.out.now c.write_word-before.new.out c.put_field.new.out c.write_word-before.result c.put_field.result c.write_word-before.ensures c.put_field.ensures
 
 -- and the place
 placed :
     (c : After-put_field-2) →
     let mid : List ℕ = put_mid c.write_word-before.result (length c.write_word-before.new.out - c.write_word-before.result) c.write_word-before.new.out c.put_field.new.out in
     let i : ℕ = c.write_word-before.result + c.put_field.result in
-    Wrote (refused ++ number c⟨Start⟩ ++ place c⟨Start⟩) (old c⟨Start⟩) (put_mid i (length mid - i) mid c.put_field-2.new.out) (i + c.put_field-2.result)
+    Wrote (refused ++ field c.args.number ++ field c.args.place) c.args.out.now (put_mid i (length mid - i) mid c.put_field-2.new.out) (i + c.put_field-2.result)
 placed c =
-    wrote_then (refused ++ number c⟨Start⟩) (place c⟨Start⟩) (old c⟨Start⟩) _ c.put_field-2.new.out _ c.put_field-2.result (numbered c⟨After-put_field⟩) c.put_field-2.ensures
+    wrote_then (refused ++ field c.args.number) (field c.args.place) c.args.out.now _ c.put_field-2.new.out _ c.put_field-2.result (wrote_then refused (field c.args.number) c.args.out.now c.write_word-before.new.out c.put_field.new.out c.write_word-before.result c.put_field.result c.write_word-before.ensures c.put_field.ensures) c.put_field-2.ensures
 
 pub write_word-before-requires : goal.write_word-before-requires
 write_word-before-requires c =
