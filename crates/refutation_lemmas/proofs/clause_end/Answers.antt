@@ -28,7 +28,7 @@ pub returns-then-slot-eq0 : goal.returns-then-slot-eq0
 returns-then-slot-eq0 c =
     let store = c.args.store.now in
     let here = c.loop-i-test.true in
-    omega (arith, c.loop-i.invariant, ends_at store c.loop-i.i here (rw (read (goal.at.returns-then-slot-eq0 c).After-slot) c.loop-i c.if-slot-eq0.true))
+    omega (arith, c.loop-i.invariant, ends_at store c.loop-i.i here (rw (read (goal.at.returns-then-slot-eq0 c).After-slot) at c.if-slot-eq0.true))
 
 pub overflow_add-i : goal.overflow_add-i
 overflow_add-i c = omega arith
@@ -40,7 +40,7 @@ pub loop-i-preserved : goal.loop-i-preserved
 loop-i-preserved c =
     let store = c.args.store.now in
     let here = c.loop-i-test.true in
-    omega (arith, c.loop-i.invariant, goes_on store c.loop-i.i here (rw (read (goal.at.loop-i-preserved c).After-slot) c.loop-i c.if-slot-eq0.false))
+    omega (arith, c.loop-i.invariant, goes_on store c.loop-i.i here (rw (read (goal.at.loop-i-preserved c).After-slot) at c.if-slot-eq0.false))
 
 pub returns : goal.returns
 returns c =
