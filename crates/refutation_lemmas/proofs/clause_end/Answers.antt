@@ -1,6 +1,5 @@
 -- `refutation_lemmas::clause_end` meets its contract. No end mark stands between the place asked for and the loop's.
 
-use Prim.Native.Nat.{◌-◌}
 use mathlib.Core.Path.{◌≡◌, refl, ◌∙◌}
 use native.Mathlib.Omega.{arith}
 use lib.IntN.{pos}
