@@ -2,7 +2,6 @@
 
 use mathlib.Core.List.{[]}
 use mathlib.Core.Path.{◌≡◌, sym, ◌∙◌}
-use borrow.Author.Tests.{not-true, not-false}
 use Rattle.refusals.specs.Tests.{◌then◌}
 use Rattle.refusals.specs.declared.Refusal.TheVariants.{NoSuchGroup}
 use Rattle.refusals.specs.declared.Verdict.TheVariants.{Passed, Refused}
@@ -32,7 +31,6 @@ asked : (c : In_default) →
     then test_group (net_of c.args.net c.args.latches.now c.args.gates.now) c.args.depth c.args.group
 unfolding ◌then◌
 asked c =
-    let c.args = c.args in
     sym (depth-more _ _ _ _ (test_group (net_of c.args.net c.args.latches.now c.args.gates.now) c.args.depth c.args.group)
     (sym c.in_default.is ∙ c.test_depth-asked.ensures))
 

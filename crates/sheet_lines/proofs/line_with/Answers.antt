@@ -3,7 +3,7 @@
 use mathlib.Core.Path.{◌≡◌, refl, sym, ◌∙◌}
 use mathlib.Core.Bool.{true, false}
 use native.Mathlib.Omega.{arith}
-use borrow.Author.Tests.{lt-ltb, le-ltb, not-true, not-false}
+use borrow.Author.Tests.{lt-ltb, le-ltb}
 use Rattle.sheet_lines.specs.Letters.{row_of, is_known, content_of}
 use Rattle.sheet_lines.specs.Lines.{as_wanted}
 use Rattle.sheet_lines.proofs.Lines.{line_with-tests}

@@ -3,7 +3,6 @@
 use mathlib.Core.Path.{◌≡◌, sym, ◌∙◌}
 use mathlib.Core.Bool.{true}
 use native.Mathlib.Omega.{arith}
-use borrow.Author.Tests.{not-true, not-false}
 use Rattle.sheet_parse.specs.LineAnswers.{has_line}
 use Rattle.sheet_parse.proofs.LineAnswers.{line-there, after_none, after-there}
 use Rattle.sheet_parse.proofs.line_after.Goals as goal
