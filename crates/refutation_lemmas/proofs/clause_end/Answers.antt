@@ -15,7 +15,7 @@ read : (c : After-slot) →
     c.slot.result ≡ slot_of (get_or c.args.store.now c.loop-i.i (pos 0))
 read c =
     c.slot.ensures
-    ∙ slot_read c.args.store.now c.loop-i.i c.slot-arg-1.given
+    ∙ slot_read c.args.store.now c.loop-i.i (omega arith)
 
 pub loop-i-init : goal.loop-i-init
 loop-i-init c = refl
