@@ -9,13 +9,12 @@ use Rattle.aiger_definitions.proofs.Passes.{pass-starts, pass-next, all-marked}
 use Rattle.aiger_definitions.proofs.pass.Goals as goal
 
 pub loop-line-init : goal.loop-line-init
-loop-line-init c =
-    (
-      pass-starts c.args.look c.args.text.now c.args.lines c.args.base 4294967296 c.requires.5 c.requires.1.some-line c.requires.2 c.requires.3,
-      c.requires.0.behind,
-      c.requires.0.counts-are,
-      refl,
-    )
+loop-line-init c = (
+  pass-starts c.args.look c.args.text.now c.args.lines c.args.base 4294967296 c.requires.5 c.requires.1.some-line c.requires.2 c.requires.3,
+  c.requires.0.behind,
+  c.requires.0.counts-are,
+  refl,
+)
 
 pub next_variables-read-requires : goal.next_variables-read-requires
 next_variables-read-requires c =
@@ -51,5 +50,5 @@ loop-line-preserved c =
 pub returns : goal.returns
 returns c =
     let all : c.loop-line.line ≡ c.args.lines = omega (arith, c.loop-line.invariant.0.to) in
-    let p = rw all c.loop-line c.loop-line.invariant.0 in
+    let p = rw all at c.loop-line.invariant.0 in
     record { judged = (p.judged, p.above); all_marked = (all-marked p, c.loop-line.invariant.3) }
