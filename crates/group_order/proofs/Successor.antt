@@ -121,7 +121,7 @@ module _ (ports k : ℕ) where
     frame-linked i =
         let e = cond (ltb i k) (Then (Wires (i + 1))) (Then Property) in
         linked-append e (Wires i ∷ gather_down i (λ j. at_ports ports (Pair j i))) (at_ports ports (Closing i))
-        (rw (closing-first i e) (sym (pairs_first i i), pairs-linked i i))
+        (sym (pairs_first i i) ∙ ap (λ (z : Next). first_or z (gather_down i (λ j. at_ports ports (Pair j i)))) (sym (closing-first i e)), rw (closing-first i e) (pairs-linked i i))
         (all-linked (Closing i) e (λ p. rw (add-one p)))
 
     -- what follows frame n - 1: the next frame, or the property

@@ -61,4 +61,4 @@ pub returns : goal.returns
 returns c =
     let numbers : List ℤ = c.args.numbers.now in
     let all : take c.loop-i.i numbers ≡ numbers = take_all c.loop-i.i numbers (omega arith) in
-    rw all c.loop-i c.loop-i.invariant.2
+    rw all at c.loop-i.invariant.2
