@@ -65,11 +65,10 @@ pub slice_bounds-write_next-end : goal.slice_bounds-write_next-end
 slice_bounds-write_next-end c = sym (length-take-le _ _ (within (goal.at.slice_bounds-write_next-end c).After-print_groups-piece))
 
 pub write_next-requires : goal.write_next-requires
-write_next-requires c =
-    (
-      piece-stands (so_far (goal.at.write_next-requires c).In-Then) (continues (goal.at.write_next-requires c).After-print_groups-piece),
-      omega (arith, c.loop-next.invariant.4, most (goal.at.write_next-requires c).After-print_groups-piece),
-    )
+write_next-requires c = (
+  piece-stands (so_far (goal.at.write_next-requires c).In-Then) (continues (goal.at.write_next-requires c).After-print_groups-piece),
+  omega (arith, c.loop-next.invariant.4, most (goal.at.write_next-requires c).After-print_groups-piece),
+)
 
 pub loop-next-smaller : goal.loop-next-smaller
 loop-next-smaller c = rw c.in-Then.is (omega (arith, c.print_groups-piece.ensures.ends.0))

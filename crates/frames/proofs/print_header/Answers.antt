@@ -34,8 +34,7 @@ slice_bounds-write_next-end c = sym (length-take-le _ _ (slice_bounds-text-end (
 
 pub write_next-requires : goal.write_next-requires
 write_next-requires c =
-    let clauses = clause_text (formula (net_of c.args.taken.net c.args.latches.now c.args.gates.now) c.args.taken.depth) in
-    (
+    let clauses = clause_text (formula (net_of c.args.taken.net c.args.latches.now c.args.gates.now) c.args.taken.depth) in (
       first-stands _ clauses (taken-frames c.requires.0 ∙ ap (λ (t : List ℕ). t ++ clauses) (sym (wrote-front c.print_header-bytes.ensures.0))) c.requires.1,
       omega (arith, c.requires.1, counted (goal.at.write_next-requires c).After-print_header-bytes),
     )

@@ -32,11 +32,10 @@ pub slice_bounds-write_next-end : goal.slice_bounds-write_next-end
 slice_bounds-write_next-end c = sym (length-take-le _ _ (slice_bounds-text-end (goal.at.slice_bounds-write_next-end c).After-write_next-arg-2-1))
 
 pub write_next-requires : goal.write_next-requires
-write_next-requires c =
-    (
-      first-stands _ _ (c.requires.0 ∙ sym (front (goal.at.write_next-requires c).After-write_refusal-bytes) ∙ sym (append-nil _)) c.requires.1,
-      omega (arith, c.requires.1, counted (goal.at.write_next-requires c).After-write_refusal-bytes, ap length (front (goal.at.write_next-requires c).After-write_refusal-bytes), c.write_refusal-bytes.ensures.counted),
-    )
+write_next-requires c = (
+  first-stands _ _ (c.requires.0 ∙ sym (front (goal.at.write_next-requires c).After-write_refusal-bytes) ∙ sym (append-nil _)) c.requires.1,
+  omega (arith, c.requires.1, counted (goal.at.write_next-requires c).After-write_refusal-bytes, ap length (front (goal.at.write_next-requires c).After-write_refusal-bytes), c.write_refusal-bytes.ensures.counted),
+)
 
 pub returns : goal.returns
 returns c =

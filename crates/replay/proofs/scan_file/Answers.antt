@@ -37,8 +37,7 @@ scan_bytes-requires c = c.loop-more.invariant.1
 
 pub returns-then-bytes-lt65536 : goal.returns-then-bytes-lt65536
 returns-then-bytes-lt65536 c =
-    let inv = c.loop-more.invariant in
-    (
+    let inv = c.loop-more.invariant in (
       c.scan_bytes.ensures.holds,
       (
         one_more inv.2 c.scan_bytes.ensures.behind (omega (arith, c.read_piece-bytes.ensures.counted.0, slice_bounds-scan_bytes-end (goal.at.returns-then-bytes-lt65536 c).After-piece-then-bytes-lt65536-1)),
