@@ -6,14 +6,15 @@ VERSION = $(shell sed -n 's/^\#define MARRUBIGAI_VERSION "\(.*\)"/\1/p' include/
 demo:
 	@bash scripts/demo.sh
 
-# the command marrubigai, in target/command; it proves the library first where that is not there
+# the command marrubigai, in target/command; it proves the library first where that is not of these sources
 command:
 	@bash -c '. scripts/install.sh && install_missing g++ g++ awk mawk /usr/include/cadical.hpp libcadical-dev yosys yosys'
+	@bash scripts/build.sh library
 	@$(MAKE) --no-print-directory -C command
 
 # programs, library, header, pkg-config file and man page, under DESTDIR where that is given
 install: command
-	@test -x target/bin/frames && test -x target/bin/replay && test -x target/bin/import_aag && test -x target/bin/one_port && test -x target/bin/export_aig || rt check frames replay import_aag one_port export_aig
+	@bash scripts/build.sh programs
 	install -d $(addprefix "$(DESTDIR)$(PREFIX)"/,bin include lib/pkgconfig share/man/man1)
 	install target/command/marrubigai target/bin/frames target/bin/replay target/bin/import_aag target/bin/one_port target/bin/export_aig "$(DESTDIR)$(PREFIX)/bin"
 	install -m 644 include/marrubigai.h "$(DESTDIR)$(PREFIX)/include"

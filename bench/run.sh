@@ -27,7 +27,7 @@ compile() { cc -std=gnu11 -Wall -Wextra -O3 "$@"; }
 compile -DOUTPUT='"output_buffer.h"' -o "$work/optimised" bench/generate.c
 compile -DOUTPUT='"output_printf.h"' -o "$work/formatted" bench/generate.c
 compile -o "$work/measure" bench/measure.c
-[ -f target/staticlib/libmarrubigai.a ] || rt staticlib marrubigai > "$work/staticlib.out" || { cat "$work/staticlib.out" >&2; exit 1; }
+[ -f target/staticlib/libmarrubigai.a ] || bash scripts/build.sh library > "$work/staticlib.out" || { cat "$work/staticlib.out" >&2; exit 1; }
 compile -o "$work/library" bench/library.c -L target/staticlib -lmarrubigai
 compile -o "$work/import" bench/import.c -L target/staticlib -lmarrubigai
 rustc -O --edition 2021 -o "$work/text" bench/text.rs

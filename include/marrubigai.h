@@ -1,4 +1,4 @@
-/* The library for C: `rt staticlib marrubigai` writes target/staticlib/libmarrubigai.a. docs/LIBRARY.md has the link line, the conditions and
+/* The library for C: `scripts/build.sh library` writes target/staticlib/libmarrubigai.a. docs/LIBRARY.md has the link line, the conditions and
  * places of refusals, and a program that searches depth by depth; the contracts stand in crates/marrubigai/src. Every function takes any
  * numbers, tests them first, and after a refusal has changed nothing that it was lent, but for the memory of marrubigai_replay.
  *

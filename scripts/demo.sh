@@ -17,10 +17,14 @@ present rt || stop "the Rattle kit is missing: the command 'rt' is not on the PA
 install_missing awk mawk g++ g++ /usr/include/cadical.hpp libcadical-dev || exit 1
 rt version
 
-step "2 of 4: every crate is proved from nothing (rt prove; some minutes, a line for each crate)"
+step "2 of 4: every crate is proved from nothing (rt all verdict; some minutes, then a line for each crate)"
 begin=$SECONDS
-rt prove || stop "something is not proved"
-[ -x target/bin/frames ] || rt check frames || stop "frames was not built"
+mkdir -p target
+rt all verdict > target/verdict.log 2>&1
+status=$?
+sed -n '/^== summary$/,$p' target/verdict.log
+[ "$status" = 0 ] || { cat target/verdict.log; stop "something is not proved"; }
+bash scripts/build.sh || stop "library and programs were not built"
 make --no-print-directory command > target/command.log 2>&1 || { cat target/command.log; stop "the command was not built"; }
 echo "$((SECONDS - begin)) seconds"
 bash scripts/proved.sh || stop "the README does not say what is proved"

@@ -16,9 +16,10 @@
   next
 }
 /:/ {
-  crate[++crates] = substr($0, 1, index($0, ":") - 1)
+  crate[++crates] = $0
+  sub(/[ :].*/, "", crate[crates]) # a static library has a word more before its colon
   family[crate[crates]] = families
-  n = split(substr($0, length(crate[crates]) + 2), import, " ")
+  n = split(substr($0, index($0, ":") + 1), import, " ")
   for (k = 1; k <= n; k++)
     if (import[k] in family && family[import[k]] != families) edge[families, family[import[k]]]
 }

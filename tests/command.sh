@@ -1,7 +1,7 @@
 #!/usr/bin/env bash
 # The command `marrubigai`: it is built without a warning, and with sanitizers; its verdicts on sheets, texts and Verilog are those of
 # other tools and of the designs' stories; each exit status, each refusal by name; interrupts and time; what it writes.
-# Arguments: the programs `frames`, `replay` and `export_aig`. After `rt staticlib marrubigai`; needs libcadical-dev, yosys,
+# Arguments: the programs `frames`, `replay` and `export_aig`. After `scripts/build.sh library`; needs libcadical-dev, yosys,
 # iverilog, berkeley-abc and cadical.
 set -u
 FRAMES=$(readlink -f "$1")

@@ -6,8 +6,7 @@ cd "$(dirname "$0")/.."
 count=${1:?how many inputs}
 seed=${2:-$(date +%s)}
 echo "seed $seed"
-rt check frames replay import_aag one_port export_aig marrubigai > /dev/null
-rt staticlib marrubigai > /dev/null
+bash scripts/build.sh > /dev/null
 mkdir -p target/test
 rustc -O --edition 2021 -o target/test/runner tests/runner/main.rs
 rustc -O --edition 2021 -o target/test/library -L target/staticlib -l static=marrubigai tests/runner/library.rs

@@ -1,6 +1,6 @@
 #!/usr/bin/env bash
 # The header for C, include/marrubigai.h, against the library: it declares what is exported, a C program that is compiled with it calls each
-# function, and another measures their stack (tests/header). After `rt staticlib marrubigai`.
+# function, and another measures their stack (tests/header). After `scripts/build.sh library`.
 set -u
 cd "$(dirname "$0")/.." || exit 2
 . tests/check.sh

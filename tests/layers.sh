@@ -8,7 +8,7 @@ cd "$(dirname "$0")/.." || exit 2
 order() { # a list of crates: read for their places, then for their imports
   awk '
     /^#/ { if (/^# [^:]+: ./) families++; else { failed++; print "FAILED: a comment that names no family: " $0 }; next }
-    { colon = index($0, ":"); crate = substr($0, 1, colon - 1) }
+    { colon = index($0, ":"); crate = $0; sub(/[ :].*/, "", crate) }
     FNR == NR { place[crate] = FNR; times[crate]++; named[crate] = families; next }
     {
       why = times[crate] == 1 ? "" : " stands there " times[crate] " times"
@@ -39,15 +39,14 @@ places() { # pages
 imports() { # files
   awk '
     function words(text,   n, part) {
-      gsub(/⌜|⌝/, " ", text)
       if (text ~ /\[\]/) word["[]"]
       for (n = split(text, part, /[][ (){};,.]+/); n > 0; n--) word[part[n]]
       if (file ~ /\.rt$/) for (n = split(text, part, /[^A-Za-z0-9_]+/); n > 0; n--) word[part[n]]
     }
     function used(name,   n, part) {
       if (name in word) return 1
-      if (name !~ /^_|_$/) return 0
-      for (n = split(name, part, "_"); n > 0; n--) if (part[n] != "" && !(part[n] in word)) return 0
+      if (name !~ /◌/) return 0
+      for (n = split(name, part, /◌/); n > 0; n--) if (part[n] != "" && !(part[n] in word)) return 0
       return 1
     }
     function finish(   name) {
@@ -59,7 +58,7 @@ imports() { # files
     { sub(/ (--|\/\/) .*/, "") }
     /^(ghost )?use / {
       sub(/;$/, "")
-      if (sub(/^[^{]*\{/, "")) { sub(/\}$/, ""); n = split($0, name, /, */) } else { n = 1; name[1] = $NF }
+      if (sub(/^[^{]*\{/, "")) { sub(/\}$/, ""); n = split($0, name, /, */) } else { n = 1; name[1] = $NF; sub(/.*\./, "", name[1]) }
       for (; n > 0; n--) { sub(/.*( as |::)/, "", name[n]); imported[name[n]] }
       next
     }
@@ -82,8 +81,8 @@ trap 'rm -f "$sample"' EXIT
   printf '%s\n' '`model/specs/Claim` and `model/specs/Claims`' > "$sample"
   holds "the rule of places" [ "$(places "$sample" | grep -c '^1 passed')" = 1 ]
   imports $(find crates -path '*/must-fail' -prune -o \( -name '*.antt' -o -name '*.rt' \) -print | sort)
-  # of the sample b and _*_ are not used
-  printf '%s\n' 'use A.{b, c as d, _+_, _*_, if_then_}' '-- b * f' 'd = if 1 then 2 + 3 -- b' > "$sample"
+  # of the sample b and ◌*◌ are not used
+  printf '%s\n' 'use A.{b, c as d, ◌+◌, ◌*◌, if◌then◌}' '-- b * f' 'd = if 1 then 2 + 3 -- b' > "$sample"
   holds "the rule of imports" [ "$(imports "$sample" | tail -n 1)" = "3 passed, 2 failed" ]
 } | awk '
   /^[0-9]+ passed, [0-9]+ failed$/ { passed += $1; failed += $3; next }

@@ -35,37 +35,25 @@ compile() { # where, name, root file, further options of rustc ..
   nice rustc -O --edition 2021 -o "$1/$2" "${@:4}" "$3"
 }
 # What needs nothing of the proofs is compiled beside them: they leave a processor idle at times.
-early=$(mktemp -d) # rt ci removes target/
+early=$(mktemp -d) # outside of what rt ci reads
 for test in reference runner solvers waveform rules promises; do
   compile "$early" "$test" "tests/$test/main.rs"
 done > "$early/compiled.out" 2>&1 &
 
-echo "== layout: rt fmt --check"
-if out=$(rt fmt --check 2>&1); then pass; else echo "$out"; fail "rt fmt --check"; fi
-
-echo "== proofs and must-fail edits: rt ci"
+echo "== proofs, layout, must-fail edits, tests and programs: rt ci"
 log=$(mktemp)
 began=$SECONDS
-# rt takes the crates of a level, and the edits, in batches and waits for the slowest of each: with three for a processor few processors idle. A check
-# takes up to 2 GB, and copies the modules that it reads to a temporary folder, up to 300 MB in 6,000 files: in memory, where that has the room.
 processors=$(nproc)
-jobs=$(awk -v most=$((3 * processors)) '/^MemAvailable:/ { fit = int($2 / 2500000) } END { print fit < 1 ? 1 : fit < most ? fit : most }' /proc/meminfo)
-in_memory() { # rt also runs programs from its temporary folder
-  local try
-  [ "$(df --output=avail /dev/shm 2>/dev/null | tail -n 1)" -gt $((jobs * 500000)) ] 2>/dev/null && try=$(mktemp -p /dev/shm) || return
-  printf '#!/bin/sh\n' > "$try" && chmod 755 "$try" && "$try" 2>/dev/null
-  set -- $?
-  rm -f "$try"
-  return "$1"
-}
-if in_memory; then rooms=/dev/shm; else rooms=${TMPDIR:-/tmp}; fi
-TMPDIR=$rooms RT_JOBS=$jobs rt ci 2>&1 | tee "$log"
+rt ci 2>&1 | tee "$log"
 status=${PIPESTATUS[0]}
 echo "($((SECONDS - began)) s)"
 count "rt ci" "$status" "$log"
+# An edit that cannot be applied or read fails nothing there, and says nothing of a contract.
+if verdict=$(grep -E '^rt: ok;' "$log") && ! grep -qE ', [1-9][0-9]* bad' <<<"$verdict"; then pass; else fail "rt ci does not say that all is well, with no bad must-fail edit"; fi
 wait
 logs=target/test
 mkdir -p target
+rm -rf "$logs"
 mv "$early" "$logs"
 mv "$log" "$logs/rt-ci.out"
 cat "$logs/compiled.out"
@@ -74,13 +62,13 @@ cat "$logs/compiled.out"
 # for itself, and each has its own scratch files.
 names=()
 headings=()
-start() { # heading, name, command ..
+start() { # heading, name, command ..; seconds, in `limit`
   while [ "$(jobs -pr | wc -l)" -ge "$processors" ]; do wait -n; done
   headings+=("$1")
   names+=("$2")
   {
     began=$SECONDS
-    timeout 900 "${@:3}" > "$logs/$2.out" 2>&1
+    timeout "${limit:-900}" "${@:3}" > "$logs/$2.out" 2>&1
     echo "$? $((SECONDS - began))" > "$logs/$2.status"
   } &
 }
@@ -106,11 +94,14 @@ one_port=target/bin/one_port
 exporter=target/bin/export_aig
 programs=("$frames" "$replay" "$import" "$one_port" "$exporter")
 
-# The library is built beside the tests that need none of it.
+echo "== the programs that rt ci has built and run: scripts/build.sh from-ci"
+if bash scripts/build.sh from-ci; then pass; else fail "the programs"; fi
+
+# The library is built beside the tests that need none of it: rt ci proves a static library and builds none.
 linked=(-L target/staticlib -l static=marrubigai)
 {
   {
-    rt staticlib marrubigai && compile "$logs" library tests/runner/library.rs "${linked[@]}" &&
+    bash scripts/build.sh library && compile "$logs" library tests/runner/library.rs "${linked[@]}" &&
       compile "$logs" certificates tests/certificates/main.rs "${linked[@]}" &&
       compile "$logs" verilog tests/verilog/main.rs "${linked[@]}" && make --no-print-directory -C command
   } > "$logs/staticlib.out" 2>&1
@@ -121,9 +112,11 @@ start "replay against the second implementation" replay "$logs/runner" "${progra
 start "the formula of frames, with public solvers" solvers "$logs/solvers" "$frames" "$logs/solvers-scratch" examples
 start "the second implementation's own tests" reference "$logs/reference"
 while [ ! -f "$logs/staticlib.status" ] && wait -n; do :; done
-echo "== the static library and the command: rt staticlib marrubigai, make -C command"
+echo "== the static library and the command: scripts/build.sh library, make -C command"
 if [ "$(cat "$logs/staticlib.status")" = 0 ]; then
   pass
+  # it checks as many edits side by side as there are processors
+  limit=5400 start "each must-fail edit is refused at a fact" edits bash tests/edits.sh
   start "the command marrubigai, with yosys and sanitizers" command bash tests/command.sh "$frames" "$replay" "$exporter"
   start "the library against the second implementation" library "$logs/library"
   start "from Verilog to an imported netlist, an exported file and a shown run, with yosys and abc" verilog \
@@ -143,7 +136,6 @@ start "one_port against the second implementation" one_port "$logs/runner" "${pr
 start "export_aig against the second implementation" export_aig "$logs/runner" "${programs[@]}" export_aig
 start "import_aag as a program" import bash tests/import.sh "$import"
 start "the examples' sheets, and what the pages show of them" examples bash tests/examples.sh "$frames" "$replay"
-start "each must-fail edit is refused at a fact" edits bash tests/edits.sh
 start "wires, codes and clause numbers are kept apart" types bash tests/types.sh
 start "families of crates, their table and figure, and imports" layers bash tests/layers.sh
 start "citations and quotes stand in docs/RULES.md" rules "$logs/rules" .

@@ -2,7 +2,7 @@
 # The C program of docs/LIBRARY.md: the page shows the file, the page's line compiles it, its transcripts are what it prints, and it
 # finds the same earliest frame as the program `frames` with a solver that is asked anew at each depth. And the page's function that says
 # where a word that is read comes from, by tests/search/written_in.c.
-# Arguments: the programs `frames` and `replay`. After `rt staticlib marrubigai`; needs libcadical-dev.
+# Arguments: the programs `frames` and `replay`. After `scripts/build.sh library`; needs libcadical-dev.
 set -u
 FRAMES=$(readlink -f "$1")
 REPLAY=$(readlink -f "$2")

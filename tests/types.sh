@@ -176,18 +176,18 @@ apart() { # files
       types["Wire"]; types["Code"]; types["Lit"]; types["Term"]
       for (n = split(allowed, entry, "\n"); n > 0; n--) if (entry[n] !~ /^(#|$)/) { allow[entry[n]]; split(entry[n], part, " "); open[part[1]] }
     }
-    FNR == 1 { finish(); file = FILENAME; code = " "; contract = 0 }
+    FNR == 1 { finish(); file = FILENAME; code = " "; contract = 0; depth = 0 }
     /^ *ghost / { next }
     {
       sub(/\/\/.*/, "")
-      while ($0 != "") { # what stands between the marks of a contract is dropped
-        at = index($0, contract ? "⌝" : "⌜")
-        if (!contract) code = code " " (at ? substr($0, 1, at - 1) : $0)
-        if (!at) break
-        $0 = substr($0, at + length("⌜"))
-        contract = !contract
+      # a clause of a contract is dropped, from its word to the brace that closes it
+      if (!contract && /^ *(requires|ensures) [a-z_0-9 ]*\{/) contract = 1
+      while (contract && match($0, /[{}]/)) {
+        depth += substr($0, RSTART, 1) == "{" ? 1 : -1
+        $0 = substr($0, RSTART + 1)
+        if (depth == 0) contract = 0
       }
-      code = code " "
+      if (!contract) code = code " " $0 " "
     }
     END {
       finish()

@@ -5,13 +5,14 @@
 //! `check` also wants each definition in specs/ reached by the contract of some function: what only proofs need stands beside them.
 //! The last line of `check` is the total.
 //! Arguments: print, write or check, and the repository's folder; or read, the path's label, and the folder. What the proofs' check said is read from
-//! target/log (after `rt ci` or `rt check`), but for `read`.
+//! target/log (after `scripts/build.sh library`), but for `read`.
 
 mod paths;
 
 use paths::{Paths, PATHS};
 use std::collections::{BTreeMap, BTreeSet};
 use std::fs;
+use std::ops::Range;
 use std::path::{Path, PathBuf};
 
 /// The crates with the functions for designers: every `pub fn` and every exported C function, methods included.
@@ -38,6 +39,9 @@ fn is_shown(of: &str, it: &Public) -> bool {
 const PROGRAM: [&str; 6] = ["program_input", "program_output", "program_replay", "program_import", "program_one_port", "program_export"];
 
 struct Repository(PathBuf);
+
+/// The libraries of the kit, whose definitions are not ours.
+const KIT: [&str; 6] = ["core", "std", "std_alloc", "std_collections", "std_heap", "std_io"];
 
 /// A file of definitions: crate and module.
 type Module = (String, String);
@@ -101,13 +105,12 @@ impl Repository {
 
 /// What separates words, of code and of definitions.
 fn words(text: &str) -> BTreeSet<&str> {
-    text.split(|c: char| c.is_whitespace() || "(){}[];,.⌜⌝".contains(c)).collect()
+    text.split(|c: char| c.is_whitespace() || "(){}[];,.".contains(c)).collect()
 }
 
 /// Whether a name is one of the words; an operator where its parts are.
 fn is_word(name: &str, words: &BTreeSet<&str>) -> bool {
-    let is_operator = name.starts_with('_') || name.ends_with('_');
-    words.contains(name) || is_operator && name.split('_').filter(|part| !part.is_empty()).all(|part| words.contains(part))
+    words.contains(name) || name.contains('◌') && name.split('◌').filter(|part| !part.is_empty()).all(|part| words.contains(part))
 }
 
 /// A text without its comments.
@@ -117,10 +120,10 @@ fn code(text: &str) -> String {
 }
 
 /// Where the names of a file come from that are definitions of ours: imported by name, or all of a module that has another name there.
-fn sources(text: &str, own: &str, modules: &BTreeMap<Module, Vec<(String, String)>>) -> BTreeMap<String, Module> {
+fn sources(text: &str, modules: &BTreeMap<Module, Vec<(String, String)>>) -> BTreeMap<String, Module> {
     let mut found = BTreeMap::new();
-    for line in text.lines().filter(|line| line.starts_with("use Rattle·") || line.starts_with("ghost use Rattle·")) {
-        if let Some((module, names)) = import(line, own) {
+    for line in text.lines().filter(|line| line.starts_with("use Rattle.") || line.starts_with("ghost use Rattle.")) {
+        if let Some((module, names)) = import(line) {
             let whole = modules.get(&module).into_iter().flatten().map(|(name, _)| name.clone());
             let names = if names.is_empty() { whole.collect() } else { names };
             found.extend(names.into_iter().map(|name| (name, module.clone())));
@@ -185,8 +188,9 @@ impl Definitions {
         for of in repository.folders("crates") {
             for path in repository.files(&format!("crates/{of}/src"), ".rt") {
                 let text = repository.read(&path);
-                let contracts: String = text.split('⌜').skip(1).filter_map(|rest| rest.split('⌝').next()).collect::<Vec<_>>().join(" ");
-                let sources = sources(&text, &of, &self.known);
+                let contracts: Vec<&str> = clauses(&text).into_iter().map(|clause| &text[clause]).collect();
+                let contracts = contracts.join(" ");
+                let sources = sources(&text, &self.known);
                 found.extend(words(&contracts).into_iter().filter_map(|word| Some((sources.get(word)?.clone(), word.to_string()))));
             }
         }
@@ -205,7 +209,7 @@ impl Definitions {
             for (own, body) in known.iter().filter(wanted) {
                 let one = (module.clone(), own.clone());
                 if !shut.contains(&one) && reached.insert(one) {
-                    let sources = sources(&self.texts[&module], &module.0, &self.known);
+                    let sources = sources(&self.texts[&module], &self.known);
                     let here = known.iter().map(|(other, _)| (other.clone(), module.clone()));
                     let all: BTreeMap<String, Module> = sources.into_iter().chain(here).collect();
                     let words = words(body);
@@ -243,18 +247,31 @@ fn path_of((of, module): &Module) -> String {
     format!("crates/{of}/specs/{module}.antt")
 }
 
-/// The module and the names that a `use` line brings; none where it brings a declared type, or no definition of ours.
-fn import(line: &str, own: &str) -> Option<(Module, Vec<String>)> {
-    let rest = line.split_once("Rattle·")?.1;
-    let rest = rest.trim_end_matches(';');
-    let (of, rest) = match rest.split_once("·specs.specs.") {
-        Some((_, rest)) => (own.to_string(), rest),
-        None => {
-            let (of, rest) = rest.split_once(".specs.")?;
-            (of.to_string(), rest)
+/// Where the clauses of a file's contracts stand, each from its word to the brace that closes it.
+fn clauses(text: &str) -> Vec<Range<usize>> {
+    let mut found = Vec::new();
+    let mut start = 0;
+    for line in text.split_inclusive('\n') {
+        let head = line.trim_start();
+        if ["requires ", "ensures "].iter().any(|word| head.starts_with(word)) {
+            let begin = start + line.len() - head.len();
+            let mut depth = 0;
+            let end = text[begin..].find(|c: char| {
+                depth += i32::from(c == '{') - i32::from(c == '}');
+                c == '}' && depth == 0
+            });
+            found.push(begin..begin + end.expect("the clause's end"));
         }
-    };
-    if rest.starts_with("declared") {
+        start += line.len();
+    }
+    found
+}
+
+/// The module and the names that a `use` line brings; none where it brings a declared type, or no definition of ours.
+fn import(line: &str) -> Option<(Module, Vec<String>)> {
+    let rest = line.split_once("Rattle.")?.1;
+    let (of, rest) = rest.trim_end_matches(';').split_once(".specs.")?;
+    if KIT.contains(&of) || rest.starts_with("declared") {
         return None;
     }
     let module = rest.split([' ', '.']).next()?.to_string();
@@ -262,16 +279,15 @@ fn import(line: &str, own: &str) -> Option<(Module, Vec<String>)> {
         Some((_, names)) => names.trim_end_matches('}').split(", ").map(String::from).collect(),
         None => Vec::new(),
     };
-    Some(((of, module), names))
+    Some(((of.to_string(), module), names))
 }
 
 /// The public functions of a file, in its order. A contract goes from a function's head to the brace that opens its body, which
 /// stands on a line of its own, as far to the right as the head.
 fn functions(file: &str, text: &str) -> Vec<Public> {
-    let own = file.split('/').next().expect("a crate");
     let mut cited: BTreeMap<String, Module> = BTreeMap::new();
-    for line in text.lines().filter(|line| line.starts_with("ghost use Rattle·")) {
-        if let Some((module, names)) = import(line, own) {
+    for line in text.lines().filter(|line| line.starts_with("ghost use Rattle.")) {
+        if let Some((module, names)) = import(line) {
             for name in names {
                 cited.insert(name, module.clone());
             }
@@ -299,28 +315,31 @@ fn public(file: &str, name: &str, indent: &str, contract: &str, cited: &BTreeMap
     let mut clauses = contract.split(&ensures);
     let head = clauses.next().expect("a head").split(&requires).next().expect("a head");
     let mut promises = Vec::new();
-    let mut bodies = String::new();
+    let mut ends = BTreeSet::new();
     for clause in clauses {
         let (called, body) = clause.split_once('{').expect("an ensures");
-        let words: BTreeSet<&str> = body.split(|c: char| c.is_whitespace() || "()⌜⌝{}".contains(c)).collect();
+        // of a value with its field, as `result.verdict`, the value
+        let words = body.split(|c: char| c.is_whitespace() || "(){}".contains(c));
+        let words: BTreeSet<&str> = words.filter_map(|word| word.split('.').next()).collect();
         let definitions = cited.iter().filter(|(name, _)| words.contains(name.as_str()));
         promises.push(Promise {
             called: called.trim().to_string(),
-            says: body.trim().trim_end_matches('}').trim().to_string(),
+            says: body.trim().strip_suffix('}').expect("the clause's end").trim().to_string(),
             cited: definitions.map(|(name, module)| (name.clone(), module.clone())).collect(),
         });
-        bodies += body;
+        ends.extend(body.split(|c: char| c.is_whitespace() || "(){},".contains(c)).map(String::from));
     }
     let lent = head.split(['(', ',']).filter_map(|parameter| {
         let (name, of) = parameter.split_once(": &")?;
         let is_mut = of.split([' ', '[']).take(2).any(|word| word == "mut");
         is_mut.then(|| name.trim().to_string())
     });
+    let is_said = |new: &str| ends.iter().any(|word| word.strip_prefix(new).map_or(false, |rest| rest.is_empty() || rest.starts_with('.')));
     Public {
         file: file.to_string(),
         name: name.to_string(),
         has_requires: contract.contains(&requires),
-        unsaid: lent.filter(|name| !bodies.contains(&format!("now ({name} .exit)"))).collect(),
+        unsaid: lent.filter(|name| !is_said(&format!("{name}.new"))).collect(),
         promises,
     }
 }
@@ -367,16 +386,19 @@ enum Wrong {
 }
 
 /// What the replaced text is: a definition where it stands in specs/; in src/ a promise where it stands in a contract, and else code.
-/// None of an import, which only goes with what uses it.
-fn wrong_of(path: &str, line: &str) -> Option<Wrong> {
-    let line = line.trim_start();
+/// None of an import, which only goes with what uses it, nor of a proof file, where an answer takes its goal's other name.
+fn wrong_of(path: &str, source: &str, at: usize) -> Option<Wrong> {
+    if path.starts_with("proofs/") {
+        return None;
+    }
+    let line = source[source[..at].rfind('\n').map_or(0, |end| end + 1)..].trim_start();
     if line.starts_with("use ") || line.starts_with("ghost use ") {
         return None;
     }
     if path.starts_with("specs/") {
         return Some(Wrong::Definition);
     }
-    let is_contract = line.starts_with("ensures ") || line.starts_with("requires ");
+    let is_contract = line.starts_with("ensures ") || line.starts_with("requires ") || clauses(source).iter().any(|clause| clause.contains(&at));
     Some(if is_contract { Wrong::Promise } else { Wrong::Code })
 }
 
@@ -390,8 +412,7 @@ fn wrongs(repository: &Repository, of: &str, edit: &str) -> BTreeSet<Wrong> {
             path = file;
             source = repository.read(&format!("crates/{of}/{file}"));
         } else if let Some(old) = line.strip_prefix("old: ") {
-            let replaced = source.lines().filter(|line| line.contains(old));
-            found.extend(replaced.filter_map(|line| wrong_of(path, line)));
+            found.extend(source.match_indices(old).filter_map(|(at, _)| wrong_of(path, &source, at)));
         }
     }
     found
@@ -464,17 +485,23 @@ fn edits_blocks(repository: &Repository, functions: &[Public]) -> ([String; 2], 
     ([programs, definitions], short)
 }
 
-/// What the check said that it assumes, of each crate: NAME.say is kept where the crate has not changed since, NAME.out is not.
+/// What the check said that it assumes. It says so of the crates that no other imports, of all that these reach.
 fn axioms_block(repository: &Repository) -> String {
-    let logs = repository.files("target/log", ".say");
-    if logs.is_empty() {
-        eprintln!("target/log has nothing of a check: make test first");
-        std::process::exit(2);
+    let list = repository.read("crates.txt");
+    let lines = list.lines().filter(|line| !line.starts_with('#')).filter_map(|line| line.split_once(':'));
+    let (mut tops, mut imported) = (BTreeSet::new(), BTreeSet::new());
+    for (head, imports) in lines {
+        tops.extend(head.split_whitespace().next());
+        imported.extend(imports.split_whitespace());
     }
     let mut text = String::new();
-    for path in logs {
-        let name = Path::new(&path).file_stem().expect("a name").to_string_lossy().into_owned();
-        for line in repository.read(&path).lines().filter(|line| line.starts_with("axioms ")) {
+    for name in tops.difference(&imported) {
+        let said = fs::read_to_string(repository.0.join(format!("target/log/{name}.say"))).unwrap_or_default();
+        if !said.lines().any(|line| line.starts_with("logic=proved ")) {
+            eprintln!("target/log has no check of {name}: make test first, or scripts/build.sh library");
+            std::process::exit(2);
+        }
+        for line in said.lines().filter(|line| line.starts_with("axioms ") && !line.contains(": none reached ")) {
             text += &format!("{name}: {line}\n");
         }
     }

@@ -1,6 +1,6 @@
 //! Readers' paths: for each promise the definitions and types that its contract reaches, in an order in which each stands behind what it uses.
 
-use super::{begun, code, import, path_of, Definition, Definitions, Module, Promise, Public, Repository};
+use super::{begun, code, import, path_of, Definition, Definitions, Module, Promise, Public, Repository, KIT};
 use std::collections::{BTreeMap, BTreeSet};
 
 /// How many lines a careful reader compares with their rules in a minute: the pace of a code inspection, some 120 lines an hour. It is assumed: no
@@ -21,33 +21,33 @@ pub struct ReadersPath {
 
 /// A run is one whatever feeds it, and what is refused shows none: neither what an answer's text says nor the tests before it have to be read.
 const FED_ANYTHING: [&str; 4] = [
-    "answer_lines/Answer/answerIn",
-    "answer_lines/Answer/answerKind",
-    "replay_answer/ReplayAnswer/saidOf",
-    "netlist_tests/Record/recordVerdict",
+    "answer_lines/Answer/answer_in",
+    "answer_lines/Answer/answer_kind",
+    "replay_answer/ReplayAnswer/said_of",
+    "netlist_tests/Record/record_verdict",
 ];
 
 /// Demand 3 takes the numbers that the calls leave and the formula that they are together as they come, what passes the tests by the theorem that
 /// says which netlists those are, and the depth as any.
 const UNOPENED: [&str; 7] = [
     "model/Numbers/formula",
-    "model/Numbers/numbersOf",
-    "model/Groups/groupOrder",
-    "model/Groups/inDepth",
-    "netlist_tests/Record/recordVerdict",
-    "call_unpacked/Calls/groupSent",
-    "call_unpacked/Calls/groupLeaves",
+    "model/Numbers/numbers_of",
+    "model/Groups/group_order",
+    "model/Groups/in_depth",
+    "netlist_tests/Record/record_verdict",
+    "call_unpacked/Calls/group_sent",
+    "call_unpacked/Calls/group_leaves",
 ];
 
 /// The bound on numbers says of whatever is written how large it is.
-const NUMBERS_ALONE: [&str; 1] = ["model/Numbers/numbersOf"];
+const NUMBERS_ALONE: [&str; 1] = ["model/Numbers/numbers_of"];
 
 /// Groups through a running record are said to be those by frame number, which are demand 2's; the record's tests are demand 1's.
 const BY_FRAME: [&str; 4] = [
-    "model/Numbers/numbersOf",
-    "netlist_tests/Record/recordVerdict",
-    "call_unpacked/Calls/groupSent",
-    "call_unpacked/Calls/groupLeaves",
+    "model/Numbers/numbers_of",
+    "netlist_tests/Record/record_verdict",
+    "call_unpacked/Calls/group_sent",
+    "call_unpacked/Calls/group_leaves",
 ];
 
 const DEMAND_2: [Begin; 2] = [("marrubigai_write_group", "borrowed", None), ("marrubigai_heading", "answer", None)];
@@ -92,13 +92,13 @@ pub const PATHS: [ReadersPath; 22] = [
         label: "2",
         promise: "demand 2",
         from: &DEMAND_2,
-        shut: &["call_unpacked/Calls/groupVerdict", "call_unpacked/Calls/headingVerdict"],
+        shut: &["call_unpacked/Calls/group_verdict", "call_unpacked/Calls/heading_verdict"],
     },
     ReadersPath {
         label: "1-record",
         promise: "demand 1 of the calls over a record",
         from: &[("marrubigai_write_group", "answer", None), ("marrubigai_heading", "answer", None)],
-        shut: &["model/Numbers/numbersOf", "model/Numbers/formula"],
+        shut: &["model/Numbers/numbers_of", "model/Numbers/formula"],
     },
     ReadersPath {
         label: "1-sheet",
@@ -135,7 +135,7 @@ pub const PATHS: [ReadersPath; 22] = [
             ("marrubigai_replay", "settled", Some("RightAnswerTheorem")),
             ("marrubigai_replay", "written", None),
         ],
-        shut: &["model/Numbers/formula", "netlist_tests/Record/recordVerdict"],
+        shut: &["model/Numbers/formula", "netlist_tests/Record/record_verdict"],
     },
     ReadersPath {
         label: "K3",
@@ -193,13 +193,13 @@ pub const PATHS: [ReadersPath; 22] = [
             ("marrubigai_write_sheet", "borrowed", None),
             ("marrubigai_write_sheet", "written", None),
         ],
-        shut: &["netlist_tests/Record/recordVerdict"],
+        shut: &["netlist_tests/Record/record_verdict"],
     },
     ReadersPath {
         label: "K10",
         promise: "a second read port, in runs, clauses and calls",
         from: &[("marrubigai_heading", "theorems", Some("EncodingTheorem")), ("marrubigai_write_group", "answer", None)],
-        shut: &["netlist_tests/Record/recordVerdict"],
+        shut: &["netlist_tests/Record/record_verdict"],
     },
     ReadersPath {
         label: "K11",
@@ -221,7 +221,7 @@ pub const PATHS: [ReadersPath; 22] = [
         label: "K13",
         promise: "one source of each read, and what follows from what is fed",
         from: &[("marrubigai_heading", "theorems", Some("TraceTheorem")), ("marrubigai_source_literal", "", None)],
-        shut: &["model/Numbers/formula", "netlist_tests/Record/recordVerdict"],
+        shut: &["model/Numbers/formula", "netlist_tests/Record/record_verdict"],
     },
     ReadersPath {
         label: "K14",
@@ -231,7 +231,7 @@ pub const PATHS: [ReadersPath; 22] = [
             ("marrubigai_export", "borrowed", None),
             ("marrubigai_export", "exported", None),
         ],
-        shut: &["netlist_tests/Record/recordVerdict"],
+        shut: &["netlist_tests/Record/record_verdict"],
     },
 ];
 
@@ -267,10 +267,12 @@ fn declarations(repository: &Repository) -> BTreeMap<Declared, Vec<String>> {
     found
 }
 
-/// The type and the names that a `use` line of a declared type brings.
-fn declared(line: &str, own: &str) -> Option<(Declared, Vec<String>)> {
-    let (before, rest) = line.strip_prefix("use Rattle·")?.split_once(".declared.")?;
-    let of = if before.contains("·specs") { own } else { before.split('.').next()? };
+/// The type of ours and the names that a `use` line of a declared type brings.
+fn declared(line: &str) -> Option<(Declared, Vec<String>)> {
+    let (of, rest) = line.strip_prefix("use Rattle.")?.split_once(".specs.declared.")?;
+    if KIT.contains(&of) {
+        return None;
+    }
     let name = rest.split(['.', ' ']).next()?;
     let names = match rest.split_once('{') {
         Some((_, names)) => names.trim_end_matches('}').split(", ").map(String::from).collect(),
@@ -297,7 +299,7 @@ pub struct Paths<'a> {
 impl<'a> Paths<'a> {
     pub fn of(repository: &'a Repository, definitions: &'a Definitions, functions: Vec<&'a Public>) -> Paths<'a> {
         let list = repository.read("crates.txt");
-        let crates = list.lines().filter(|line| !line.starts_with('#')).filter_map(|line| Some(line.split_once(':')?.0));
+        let crates = list.lines().filter(|line| !line.starts_with('#')).filter(|line| line.contains(':')).filter_map(|line| line.split([' ', ':']).next());
         let mut order = Vec::new();
         for of in crates {
             let lib = repository.0.join(format!("crates/{of}/specs/Lib.antt"));
@@ -357,10 +359,10 @@ impl<'a> Paths<'a> {
         for (module, name) in definitions {
             let body = &self.definitions.known[module].iter().find(|(own, _)| own == name).expect("a definition").1;
             // of a name in another module, the module's
-            let words = body.split(|c: char| c.is_whitespace() || "(){}[];,⌜⌝".contains(c));
+            let words = body.split(|c: char| c.is_whitespace() || "(){}[];,".contains(c));
             let body: BTreeSet<&str> = words.filter_map(|word| word.split('.').next()).collect();
             for line in self.definitions.texts[module].lines() {
-                if let Some((it, names)) = declared(line, &module.0) {
+                if let Some((it, names)) = declared(line) {
                     if names.iter().any(|name| body.contains(name.as_str())) {
                         left.push(it);
                     }
@@ -402,8 +404,8 @@ impl<'a> Paths<'a> {
         let mut found = Vec::new();
         let read: BTreeSet<Definition> = PATHS.iter().flat_map(|path| self.reading(path).definitions).collect();
         for module in read.iter().map(|(module, _)| module).collect::<BTreeSet<_>>() {
-            let uses = self.definitions.texts[module].lines().filter(|line| line.starts_with("use Rattle·"));
-            let late = uses.filter_map(|line| import(line, &module.0)).filter(|(it, _)| place(it) > place(module));
+            let uses = self.definitions.texts[module].lines().filter(|line| line.starts_with("use Rattle."));
+            let late = uses.filter_map(|line| import(line)).filter(|(it, _)| place(it) > place(module));
             found.extend(late.map(|(it, _)| format!("{} is read before {}, which it uses", path_of(module), path_of(&it))));
         }
         let mut shut: BTreeMap<&str, bool> = BTreeMap::new();

@@ -281,6 +281,11 @@ fn sources(path: &str, comment: &Joined, page: &str, demands: &str, tally: &mut 
     }
 }
 
+/// Whether a folder is one that `rt` makes in a crate.
+fn is_made(path: &str) -> bool {
+    path.starts_with("crates/") && path.ends_with("/out") && path.split('/').count() == 3
+}
+
 /// The repository's files, but what is built and what git keeps.
 fn files(root: &Path, folder: &str, found: &mut Vec<String>) {
     let mut entries: Vec<_> = fs::read_dir(root.join(folder)).expect("a folder").map(|entry| entry.expect("an entry")).collect();
@@ -290,7 +295,7 @@ fn files(root: &Path, folder: &str, found: &mut Vec<String>) {
         let path = if folder.is_empty() { name.clone() } else { format!("{folder}/{name}") };
         if !entry.file_type().expect("a type").is_dir() {
             found.push(path);
-        } else if name != ".git" && path != "target" {
+        } else if name != ".git" && path != "target" && !is_made(&path) {
             files(root, &path, found);
         }
     }

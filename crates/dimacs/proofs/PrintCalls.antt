@@ -15,35 +15,35 @@ use Rattle.dimacs.specs.declared.PrintAnswer.TheVariants.{Written, Refused}
 -- a text that was written in a slice that kept its length: the answer is its count, and it stands before what was there
 pub written :
     (text old new : List ℕ) (count : ℕ) → length new ≡ length old → Wrote text old new count →
-    (print_reply (Written count) ≡ print_sent text (length old)) × (new ≡ print_leaves text old)
+    record { answer : print_reply (Written count) ≡ print_sent text (length old); borrowed : new ≡ print_leaves text old }
 unfolding print_reply print_sent print_leaves with_count contents_after
 written text old new count kept w =
     let room : length text ≤ length old = omega (arith, ap length w.leaves, length-append text (drop (length text) old)) in
     let passes = room-enough (length text) (length old) room in
-    (rw (passes, w.counted), rw passes w.leaves)
+    record { answer = rw (passes, w.counted); borrowed = rw passes w.leaves }
 
 -- a text that was filled from the right: the same answer, and it stands behind what was there
 pub filled :
     (text old new : List ℕ) (count : ℕ) → length text ≤ length old → WroteAtEnd text old new count →
-    (print_reply (Written count) ≡ print_sent text (length old)) × (new ≡ fill_leaves text old)
+    record { answer : print_reply (Written count) ≡ print_sent text (length old); borrowed : new ≡ fill_leaves text old }
 unfolding print_reply print_sent fill_leaves with_count
 filled text old new count room f =
     let passes = room-enough (length text) (length old) room in
-    (rw (passes, f.counted), rw passes f.leaves)
+    record { answer = rw (passes, f.counted); borrowed = rw passes f.leaves }
 
 -- a text that has no room: refusal 9 at place 0, and nothing is changed
 pub not_written :
     (text old : List ℕ) → length old < length text →
-    (print_reply (Refused NoRoom 0) ≡ print_sent text (length old)) × (old ≡ print_leaves text old)
+    record { answer : print_reply (Refused NoRoom 0) ≡ print_sent text (length old); borrowed : old ≡ print_leaves text old }
 unfolding print_reply print_sent print_leaves with_count contents_after
 not_written text old short =
     let refuses = room-short (length text) (length old) short in
-    (rw refuses, rw refuses)
+    record { answer = rw refuses; borrowed = rw refuses }
 
 pub not-filled :
     (text old : List ℕ) → length old < length text →
-    (print_reply (Refused NoRoom 0) ≡ print_sent text (length old)) × (old ≡ fill_leaves text old)
+    record { answer : print_reply (Refused NoRoom 0) ≡ print_sent text (length old); borrowed : old ≡ fill_leaves text old }
 unfolding print_reply print_sent fill_leaves with_count
 not-filled text old short =
     let refuses = room-short (length text) (length old) short in
-    (rw refuses, rw refuses)
+    record { answer = rw refuses; borrowed = rw refuses }

@@ -121,7 +121,7 @@ module _ (ports k : ℕ) where
     frame-linked i =
         let e = cond (ltb i k) (Then (Wires (i + 1))) (Then Property) in
         linked-append e (Wires i ∷ gather_down i (λ j. at_ports ports (Pair j i))) (at_ports ports (Closing i))
-        (rw (closing-first i e) (sym (pairs_first i i), pairs-linked i i))
+        (sym (pairs_first i i) ∙ ap (λ (z : Next). first_or z (gather_down i (λ j. at_ports ports (Pair j i)))) (sym (closing-first i e)), subst (λ (z : Next). Linked z (gather_down i (λ j. at_ports ports (Pair j i)))) (sym (closing-first i e)) (pairs-linked i i))
         (all-linked (Closing i) e (λ p. rw (add-one p)))
 
     -- what follows frame n - 1: the next frame, or the property
@@ -203,23 +203,23 @@ module _ (ports k : ℕ) where
   -- what `next_group` promises
   abbrev pub Follows : Group → Next → Type 0
   Follows g r =
-      ((xs ys : List Group) → group_order ports k ≡ xs ++ g ∷ ys → r ≡ first_group ys)
-      × ((((xs ys : List Group) → group_order ports k ≡ xs ++ g ∷ ys → ⊥) → r ≡ End)
-      × (remaining_from ports k r ≤ remaining_after ports k g))
+      record {
+        follows : (xs ys : List Group) → group_order ports k ≡ xs ++ g ∷ ys → r ≡ first_group ys;
+        absent : ((xs ys : List Group) → group_order ports k ≡ xs ++ g ∷ ys → ⊥) → r ≡ End;
+        ends : remaining_from ports k r ≤ remaining_after ports k g;
+      }
 
   -- for a group of the depth, known by its kind
   pub follows : 1 ≤ ports → (g g' : Group) (r : Next) → in_depth ports k g ≡ true → g ≡ g' → successor ports k g' ≡ r → Follows g r
-  follows some g g' r there e h = (
-    λ xs ys o. sym answer ∙ successor-next some g xs ys o,
-    (
-      λ absent. let at = in_order_lem ports k g there in absurd (absent at.0 at.1 at.2),
-      subst (λ (n : Next). remaining_from ports k n ≤ remaining_after ports k g) answer (successor-remaining some g),
-    ),
-  )
+  follows some g g' r there e h = record {
+    follows = λ xs ys o. sym answer ∙ successor-next some g xs ys o;
+    absent = λ absent. let at = in_order_lem ports k g there in absurd (absent at.0 at.1 at.2);
+    ends = subst (λ (n : Next). remaining_from ports k n ≤ remaining_after ports k g) answer (successor-remaining some g);
+  }
     where
       answer : successor ports k g ≡ r
       answer = ap (successor ports k) e ∙ h
 
   -- and for any other
   pub none-follows : (g : Group) → in_depth ports k g ≡ false → Follows g End
-  none-follows g h = (λ xs ys o. absurd (not-in-order ports k g h xs ys o), (λ absent. refl, zero-le))
+  none-follows g h = record { follows = λ xs ys o. absurd (not-in-order ports k g h xs ys o); absent = λ absent. refl; ends = zero-le }

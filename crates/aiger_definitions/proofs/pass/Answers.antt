@@ -51,5 +51,5 @@ loop-line-preserved c =
 pub returns : goal.returns
 returns c =
     let all : c.loop-line.line ≡ c.args.lines = omega (arith, c.loop-line.invariant.0.to) in
-    let p = rw all c.loop-line c.loop-line.invariant.0 in
+    let p = rw all at c.loop-line.invariant.0 in
     record { judged = (p.judged, p.above); all_marked = (all-marked p, c.loop-line.invariant.3) }

@@ -50,7 +50,7 @@ loop-g-preserved c =
 pub returns : goal.returns
 returns c =
     let all : c.loop-g.g ≡ c.args.count = omega arith in
-    (rw all c.loop-g c.loop-g.invariant.3, rw all c.loop-g c.loop-g.invariant.2)
+    (rw all at c.loop-g.invariant.3, rw all at c.loop-g.invariant.2)
 
 pub overflow_add-g : goal.overflow_add-g
 overflow_add-g c = omega arith

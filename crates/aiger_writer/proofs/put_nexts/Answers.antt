@@ -50,7 +50,7 @@ loop-l-preserved c =
 pub returns : goal.returns
 returns c =
     let all : c.loop-l.l ≡ c.args.count = omega arith in
-    (rw all c.loop-l c.loop-l.invariant.3, rw all c.loop-l c.loop-l.invariant.2)
+    (rw all at c.loop-l.invariant.3, rw all at c.loop-l.invariant.2)
 
 pub overflow_add-l : goal.overflow_add-l
 overflow_add-l c = omega arith

@@ -63,7 +63,7 @@ loop-o-preserved c =
 pub returns : goal.returns
 returns c =
     let all : c.loop-o.o ≡ c.args.net.m + c.args.net.n + 3 = omega arith in
-    (rw all c.loop-o c.loop-o.invariant.3, rw all c.loop-o c.loop-o.invariant.2)
+    (rw all at c.loop-o.invariant.3, rw all at c.loop-o.invariant.2)
 
 pub loop-o-smaller : goal.loop-o-smaller
 loop-o-smaller c = omega arith

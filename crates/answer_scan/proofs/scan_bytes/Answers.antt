@@ -41,4 +41,4 @@ loop-i-preserved c =
 pub returns : goal.returns
 returns c =
     let piece = c.args.piece.now in
-    let all : take c.loop-i.i piece ≡ piece = take_all c.loop-i.i piece (omega arith) in record { holds = c.loop-i.invariant.1; behind = behind-next c.args.scan (record { position = c.loop-i.position; line = c.loop-i.line }) piece c.args.signs.now c.loop-i.signs (rw all c.loop-i c.loop-i.invariant.2) }
+    let all : take c.loop-i.i piece ≡ piece = take_all c.loop-i.i piece (omega arith) in record { holds = c.loop-i.invariant.1; behind = behind-next c.args.scan (record { position = c.loop-i.position; line = c.loop-i.line }) piece c.args.signs.now c.loop-i.signs (rw all at c.loop-i.invariant.2) }

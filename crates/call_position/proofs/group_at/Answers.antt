@@ -34,7 +34,6 @@ tested : (c : After-test_frame) →
     ≡ c.test_frame.result then test_group_room (net_of c.args.net c.args.latches.now c.args.gates.now) c.args.position.depth c.args.group room
 unfolding ◌then◌
 tested c room =
-    let c.args = c.args in
     group-at-tested _ _ _ c.args.position c.args.group room (sym c.in_default.is ∙ c.test_group.ensures)
     (c.test_frame.ensures ∙ test_frame-lists c.args.net c.args.latches.now c.args.gates.now c.args.position c.args.position.frame)
 

@@ -32,7 +32,6 @@ tested : (c : After-test_move) →
     ≡ c.test_move.result
 unfolding ◌then◌
 tested c =
-    let c.args = c.args in
     let moves = rw c.move_of-way.ensures at c.test_move.ensures in
     move-tested _ _ _ c.args.position (move_of c.args.way) (sym c.in_default.is ∙ c.test_depth.ensures)
     (moves ∙ test_move-lists c.args.net c.args.latches.now c.args.gates.now c.args.position (move_of c.args.way))

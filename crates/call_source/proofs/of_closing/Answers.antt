@@ -21,14 +21,14 @@ RE-is c = ap (λ p. p.RE) c.port_of-port.ensures
 pub in_frame-requires : goal.in_frame-requires
 in_frame-requires c =
     let p = c.requires in
-    code-numbered _ 0 _ _ c.frame_base.ensures p.0 (rw (RE-is (goal.at.in_frame-requires c).Then-i-eq0) p.2) (omega arith)
+    code-numbered _ 0 _ _ c.frame_base.ensures p.0 (rw (RE-is (goal.at.in_frame-requires c).After-port_of-port) p.2) (omega arith)
 
 pub returns-then-i-eq0 : goal.returns-then-i-eq0
 unfolding source_in closing_literals
 returns-then-i-eq0 c =
     let number = c.args.number in
     rw (c.if-i-eq0.true, none_since-last (alone c.args.net) (port (alone c.args.net) number) 0)
-    (rw (c.frame_base.ensures, RE-is (goal.at.returns-then-i-eq0 c).Then-i-eq0) at c.in_frame.ensures)
+    (rw (c.frame_base.ensures, RE-is (goal.at.returns-then-i-eq0 c).After-port_of-port) at c.in_frame.ensures)
 
 pub of_pair-requires : goal.of_pair-requires
 of_pair-requires c =

@@ -48,7 +48,6 @@ returns-then-not-has_source c = sym (behind (goal.at.returns-then-not-has_source
 there : (c : Else-not-has_source) →
     IsPort (alone c.args.net) (port_in c.args.group)
 there c =
-    let c.args = c.args in
     let h = rw (c.has_source.ensures, c.port_count.ensures) at (not-false c.has_source.result c.if-not-has_source.false) in
     let both = (and-true (in_depth (ports (alone c.args.net)) c.args.depth c.args.group) (leb 1 (port_in c.args.group))).0 h in
     port-there (alone c.args.net) c.args.depth c.args.group both.0 (leb-true 1 (port_in c.args.group) both.1)

@@ -2,7 +2,6 @@
 
 use mathlib.Core.List.{[]}
 use mathlib.Core.Path.{◌≡◌, sym, ◌∙◌}
-use borrow.Author.Tests.{not-true, not-false}
 use Rattle.refusals.specs.Tests.{◌then◌}
 use Rattle.refusals.specs.declared.Refusal.TheVariants.{NoSuchGroup}
 use Rattle.refusals.specs.declared.Verdict.TheVariants.{Passed, Refused}
@@ -32,7 +31,6 @@ asked : (c : In_default) →
     then test_group (net_of c.args.net c.args.latches.now c.args.gates.now) c.args.depth c.args.group
 unfolding ◌then◌
 asked c =
-    let c.args = c.args in
     sym (depth-more _ _ _ _ (test_group (net_of c.args.net c.args.latches.now c.args.gates.now) c.args.depth c.args.group)
     (sym c.in_default.is ∙ c.test_depth-asked.ensures))
 
@@ -40,12 +38,12 @@ pub returns-then-not-is_in_depth : goal.returns-then-not-is_in_depth
 unfolding test_group net_of
 returns-then-not-is_in_depth c =
     let there = rw c.port_count.ensures at c.is_in_depth.ensures in
-    let e : test_group (net_of c.args.net c.args.latches.now c.args.gates.now) c.args.depth c.args.group ≡ Refused NoSuchGroup 0 = rw (sym there ∙ not-true _ c.if-not-is_in_depth.true) in
+    let e : test_group (net_of c.args.net c.args.latches.now c.args.gates.now) c.args.depth c.args.group ≡ Refused NoSuchGroup 0 = rw (sym there ∙ c.if-not-is_in_depth.true) in
     sym e ∙ asked (goal.at.returns-then-not-is_in_depth c).In_default
 
 pub returns : goal.returns
 unfolding test_group net_of
 returns c =
     let there = rw c.port_count.ensures at c.is_in_depth.ensures in
-    let e : test_group (net_of c.args.net c.args.latches.now c.args.gates.now) c.args.depth c.args.group ≡ Passed = rw (sym there ∙ not-false _ c.if-not-is_in_depth.false) in
+    let e : test_group (net_of c.args.net c.args.latches.now c.args.gates.now) c.args.depth c.args.group ≡ Passed = rw (sym there ∙ c.if-not-is_in_depth.false) in
     sym e ∙ asked (goal.at.returns c).In_default

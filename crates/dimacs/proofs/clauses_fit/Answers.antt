@@ -22,7 +22,6 @@ need :
     (c : After-number_length-need) →
     c.number_length-need.result + 1 ≡ length (number_text (get_or c.args.numbers.now c.loop-i.i (pos 0)))
 need c =
-    let c.loop-i = c.loop-i in
     let numbers : List ℤ = c.args.numbers.now in
     let z : ℤ = get_or numbers c.loop-i.i (pos 0) in
     let counted : c.number_length-need.result ≡ length (signed_digits z) =

@@ -28,7 +28,9 @@ parts-length c =
 byte_left :
     (c : Else-parts-eq0) → c.fill_digits-count.result < length c.args.out.now
 byte_left c =
-    omega (arith, parts-length c⟨After-parts_of⟩, c.requires, c.fill_digits-count.ensures.counted, c.if-parts-eq0.false)
+    let is = c.parts_of-parts.ensures ∙ ap parts_of (read_back c.args.z c.ranges.z) in
+    let long = length-parts c.args.z ∙ ap (λ (p : Parts). p.sign + length (digits p.value)) (sym is) in
+    omega (arith, long, c.requires, c.fill_digits-count.ensures.counted, c.if-parts-eq0.false)
 
 pub fill_digits-count-requires : goal.fill_digits-count-requires
 fill_digits-count-requires c = omega (arith, parts-length (goal.at.fill_digits-count-requires c).After-parts_of-parts, c.requires)
@@ -41,13 +43,13 @@ returns-then-parts-eq0 c =
     rw text c.fill_digits-count.ensures
 
 pub overflow_sub-before : goal.overflow_sub-before
-overflow_sub-before c = omega (arith, byte_left c, c.fill_digits-count.auto.0)
+overflow_sub-before c = omega (arith, byte_left c, c.fill_digits-count.auto.out)
 
 pub overflow_sub-out : goal.overflow_sub-out
-overflow_sub-out c = omega (arith, byte_left c, c.fill_digits-count.auto.0)
+overflow_sub-out c = omega (arith, byte_left c, c.fill_digits-count.auto.out)
 
 pub bounds-out-before : goal.bounds-out-before
-bounds-out-before c = omega (arith, byte_left c, c.fill_digits-count.auto.0)
+bounds-out-before c = omega (arith, byte_left c, c.fill_digits-count.auto.out)
 
 pub overflow_add-result : goal.overflow_add-result
 overflow_add-result c =

@@ -19,11 +19,11 @@ write_numbers-requires c =
 
 pub returns-then-clauses_fit : goal.returns-then-clauses_fit
 returns-then-clauses_fit c =
-    let put = written (clause_text c.args.numbers.now) c.args.out.now c.write_numbers.new.out c.write_numbers.result c.write_numbers.auto.0 c.write_numbers.ensures in
-    (put.0, (put.1, other-numbers))
+    let put = written (clause_text c.args.numbers.now) c.args.out.now c.write_numbers.new.out c.write_numbers.result c.write_numbers.auto.out c.write_numbers.ensures in
+    record { answer = put.answer; borrowed = put.borrowed; others = other-numbers }
 
 pub returns : goal.returns
 returns c =
     let kept = not_written (clause_text c.args.numbers.now) c.args.out.now
     (leb-false (length (clause_text c.args.numbers.now)) (length c.args.out.now) (sym c.clauses_fit.ensures ∙ c.if-clauses_fit.false)) in
-    (kept.0, (kept.1, other-numbers))
+    record { answer = kept.answer; borrowed = kept.borrowed; others = other-numbers }

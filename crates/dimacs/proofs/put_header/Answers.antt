@@ -27,4 +27,4 @@ write_header-requires c =
 
 pub returns : goal.returns
 returns c =
-    written (header_text c.args.variables c.args.clauses) c.args.out.now c.write_header.new.out c.write_header.result c.write_header.auto.0 c.write_header.ensures
+    written (header_text c.args.variables c.args.clauses) c.args.out.now c.write_header.new.out c.write_header.result c.write_header.auto.out c.write_header.ensures

@@ -21,7 +21,7 @@ returns-then-number_fits c =
     let fits = sym c.number_fits.ensures ∙ c.if-number_fits.true in
     let put = filled (signed_digits z) c.args.out.now c.fill_number.new.out c.fill_number.result
     (leb-true (length (signed_digits z)) (length c.args.out.now) (rw e at fits)) (rw e at c.fill_number.ensures) in
-    (put.0, (put.1, number-printed))
+    record { answer = put.answer; borrowed = put.borrowed; printed = number-printed }
 
 pub returns : goal.returns
 returns c =
@@ -29,4 +29,4 @@ returns c =
     let short = sym c.number_fits.ensures ∙ c.if-number_fits.false in
     let kept = not-filled (signed_digits z) c.args.out.now
     (leb-false (length (signed_digits z)) (length c.args.out.now) (rw (read_back z c.ranges.z) at short)) in
-    (kept.0, (kept.1, number-printed))
+    record { answer = kept.answer; borrowed = kept.borrowed; printed = number-printed }

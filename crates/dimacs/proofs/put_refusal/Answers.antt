@@ -17,4 +17,4 @@ write_refusal-requires c =
 
 pub returns : goal.returns
 returns c =
-    written (refusal_text c.args.number c.args.place) c.args.out.now c.write_refusal.new.out c.write_refusal.result c.write_refusal.auto.0 c.write_refusal.ensures
+    written (refusal_text c.args.number c.args.place) c.args.out.now c.write_refusal.new.out c.write_refusal.result c.write_refusal.auto.out c.write_refusal.ensures

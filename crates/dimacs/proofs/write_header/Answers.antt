@@ -34,45 +34,44 @@ room-first c = front-room (problem ++ variables c) (clauses c) (length (old c)) 
 -- the first two are written
 both :
     (c : After-write_ended) →
-    Wrote (problem ++ variables c⟨After-slice_known⟩) (old c⟨After-slice_known⟩)
+    Wrote (problem ++ (digits c.args.variables ++ space ∷ [])) c.args.out.now
     (put_mid c.write_word-before.result (length c.write_word-before.new.out - c.write_word-before.result) c.write_word-before.new.out c.write_ended.new.out) (c.write_word-before.result + c.write_ended.result)
 both c =
-    let c.write_word-before = c.write_word-before in
-    wrote_then problem (variables c⟨After-slice_known⟩) (old c⟨After-slice_known⟩) c.write_word-before.new.out c.write_ended.new.out c.write_word-before.result c.write_ended.result c.write_word-before.ensures c.write_ended.ensures
+    wrote_then problem (digits c.args.variables ++ space ∷ []) c.args.out.now c.write_word-before.new.out c.write_ended.new.out c.write_word-before.result c.write_ended.result c.write_word-before.ensures c.write_ended.ensures
 
 pub write_word-before-requires : goal.write_word-before-requires
 write_word-before-requires c =
-    front-room problem (variables (goal.at.write_word-before-requires c).After-slice_known-1) (length (old (goal.at.write_word-before-requires c).After-slice_known-1)) (room-first (goal.at.write_word-before-requires c).After-slice_known-1)
+    front-room problem (variables (goal.at.write_word-before-requires c).Start) (length (old (goal.at.write_word-before-requires c).Start)) (room-first (goal.at.write_word-before-requires c).Start)
 
 pub slice_bounds-write_ended-count : goal.slice_bounds-write_ended-count
 slice_bounds-write_ended-count c =
-    behind-within problem (variables (goal.at.slice_bounds-write_ended-count c).After-slice_known-1) (old (goal.at.slice_bounds-write_ended-count c).After-slice_known-1) c.write_word-before.new.out c.write_word-before.result c.write_word-before.ensures (room-first (goal.at.slice_bounds-write_ended-count c).After-slice_known-1)
+    behind-within problem (variables (goal.at.slice_bounds-write_ended-count c).Start) (old (goal.at.slice_bounds-write_ended-count c).Start) c.write_word-before.new.out c.write_word-before.result c.write_word-before.ensures (room-first (goal.at.slice_bounds-write_ended-count c).Start)
 
 pub slice_bounds-write_ended-start : goal.slice_bounds-write_ended-start
 slice_bounds-write_ended-start c = omega (arith, slice_bounds-write_ended-count c)
 
 pub write_ended-requires : goal.write_ended-requires
 write_ended-requires c =
-    behind-room problem (variables (goal.at.write_ended-requires c).After-slice_known-1) (old (goal.at.write_ended-requires c).After-slice_known-1) c.write_word-before.new.out c.write_word-before.result c.write_word-before.ensures (room-first (goal.at.write_ended-requires c).After-slice_known-1)
+    behind-room problem (variables (goal.at.write_ended-requires c).Start) (old (goal.at.write_ended-requires c).Start) c.write_word-before.new.out c.write_word-before.result c.write_word-before.ensures (room-first (goal.at.write_ended-requires c).Start)
 
 pub overflow_add-middle : goal.overflow_add-middle
-overflow_add-middle c = omega (arith, (both (goal.at.overflow_add-middle c).After-write_ended).counted, room-first (goal.at.overflow_add-middle c).After-slice_known-1)
+overflow_add-middle c = omega (arith, (both (goal.at.overflow_add-middle c).After-write_ended).counted, room-first (goal.at.overflow_add-middle c).Start)
 
 pub slice_bounds-write_ended-count-2 : goal.slice_bounds-write_ended-count-2
 slice_bounds-write_ended-count-2 c =
-    behind-within (problem ++ variables (goal.at.slice_bounds-write_ended-count-2 c).After-slice_known-1) (clauses (goal.at.slice_bounds-write_ended-count-2 c).After-slice_known-1) (old (goal.at.slice_bounds-write_ended-count-2 c).After-slice_known-1) _ _ (both (goal.at.slice_bounds-write_ended-count-2 c).After-write_ended) (room (goal.at.slice_bounds-write_ended-count-2 c).After-slice_known-1)
+    behind-within (problem ++ variables (goal.at.slice_bounds-write_ended-count-2 c).Start) (clauses (goal.at.slice_bounds-write_ended-count-2 c).Start) (old (goal.at.slice_bounds-write_ended-count-2 c).Start) _ _ (both (goal.at.slice_bounds-write_ended-count-2 c).After-write_ended) (room (goal.at.slice_bounds-write_ended-count-2 c).Start)
 
 pub slice_bounds-write_ended-start-2 : goal.slice_bounds-write_ended-start-2
 slice_bounds-write_ended-start-2 c = omega (arith, slice_bounds-write_ended-count-2 c)
 
 pub write_ended-requires-2 : goal.write_ended-requires-2
 write_ended-requires-2 c =
-    behind-room (problem ++ variables (goal.at.write_ended-requires-2 c).After-slice_known-1) (clauses (goal.at.write_ended-requires-2 c).After-slice_known-1) (old (goal.at.write_ended-requires-2 c).After-slice_known-1) _ _ (both (goal.at.write_ended-requires-2 c).After-write_ended) (room (goal.at.write_ended-requires-2 c).After-slice_known-1)
+    behind-room (problem ++ variables (goal.at.write_ended-requires-2 c).Start) (clauses (goal.at.write_ended-requires-2 c).Start) (old (goal.at.write_ended-requires-2 c).Start) _ _ (both (goal.at.write_ended-requires-2 c).After-write_ended) (room (goal.at.write_ended-requires-2 c).Start)
 
 pub returns : goal.returns
 unfolding header_text
 returns c =
-    wrote_then (problem ++ variables (goal.at.returns c).After-slice_known-1) (clauses (goal.at.returns c).After-slice_known-1) (old (goal.at.returns c).After-slice_known-1) _ c.write_ended-2.new.out _ c.write_ended-2.result (both (goal.at.returns c).After-write_ended) c.write_ended-2.ensures
+    wrote_then (problem ++ variables (goal.at.returns c).Start) (clauses (goal.at.returns c).Start) (old (goal.at.returns c).Start) _ c.write_ended-2.new.out _ c.write_ended-2.result (both (goal.at.returns c).After-write_ended) c.write_ended-2.ensures
 
 pub overflow_add-result : goal.overflow_add-result
 overflow_add-result c = omega (arith, (returns c).counted, c.requires)

@@ -33,10 +33,9 @@ next :
     (c : After-write_number-at) →
     Wrote (clause_text (take c.loop-i.i c.args.numbers.now) ++ number_text (get_or c.args.numbers.now c.loop-i.i (pos 0))) c.args.out.now c.write_number-at.new.out c.write_number-at.result
 next c =
-    let c.loop-i = c.loop-i in
     let numbers : List ℤ = c.args.numbers.now in
     let told : Extends (number_text (get_or numbers c.loop-i.i (pos 0))) c.loop-i.at c.loop-i.out c.write_number-at.new.out c.write_number-at.result =
-    rw (read_back (get_or numbers c.loop-i.i (pos 0)) (record { sfits = c.write_number-arg-in-loop-i-1.given })) c.loop-i c.write_number-at.ensures in
+    rw (read_back (get_or numbers c.loop-i.i (pos 0)) (record { sfits = c.write_number-arg-in-loop-i-1.given })) at c.write_number-at.ensures in
     told (clause_text (take c.loop-i.i numbers)) c.args.out.now c.loop-i.invariant.2
 
 pub bounds-numbers-i : goal.bounds-numbers-i
@@ -55,10 +54,10 @@ loop-i-smaller c = omega arith
 pub loop-i-preserved : goal.loop-i-preserved
 loop-i-preserved c =
     let numbers : List ℤ = c.args.numbers.now in
-    (omega arith, c.write_number-at.auto.0 ∙ c.loop-i.invariant.1, rw (add-one, clause_text-next numbers c.loop-i.i (omega arith)) (next (goal.at.loop-i-preserved c).After-write_number-at))
+    (omega arith, c.write_number-at.auto.out ∙ c.loop-i.invariant.1, rw (add-one, clause_text-next numbers c.loop-i.i (omega arith)) (next (goal.at.loop-i-preserved c).After-write_number-at))
 
 pub returns : goal.returns
 returns c =
     let numbers : List ℤ = c.args.numbers.now in
     let all : take c.loop-i.i numbers ≡ numbers = take_all c.loop-i.i numbers (omega arith) in
-    rw all c.loop-i c.loop-i.invariant.2
+    rw all at c.loop-i.invariant.2

@@ -38,68 +38,67 @@ room-number c = front-room (refused ++ number c) (place c) (length (old c)) (roo
 -- the word and the number are written
 numbered :
     (c : After-put_field) →
-    Wrote (refused ++ number c⟨After-slice_known⟩) (old c⟨After-slice_known⟩)
+    Wrote (refused ++ field c.args.number) c.args.out.now
     (put_mid c.write_word-before.result (length c.write_word-before.new.out - c.write_word-before.result) c.write_word-before.new.out c.put_field.new.out) (c.write_word-before.result + c.put_field.result)
 numbered c =
-    let c.write_word-before = c.write_word-before in
-    wrote_then refused (number c⟨After-slice_known⟩) (old c⟨After-slice_known⟩) c.write_word-before.new.out c.put_field.new.out c.write_word-before.result c.put_field.result c.write_word-before.ensures c.put_field.ensures
+    wrote_then refused (field c.args.number) c.args.out.now c.write_word-before.new.out c.put_field.new.out c.write_word-before.result c.put_field.result c.write_word-before.ensures c.put_field.ensures
 
 -- and the place
 placed :
     (c : After-put_field-2) →
     let mid : List ℕ = put_mid c.write_word-before.result (length c.write_word-before.new.out - c.write_word-before.result) c.write_word-before.new.out c.put_field.new.out in
     let i : ℕ = c.write_word-before.result + c.put_field.result in
-    Wrote (refused ++ number c⟨After-slice_known⟩ ++ place c⟨After-slice_known⟩) (old c⟨After-slice_known⟩) (put_mid i (length mid - i) mid c.put_field-2.new.out) (i + c.put_field-2.result)
+    Wrote (refused ++ field c.args.number ++ field c.args.place) c.args.out.now (put_mid i (length mid - i) mid c.put_field-2.new.out) (i + c.put_field-2.result)
 placed c =
-    wrote_then (refused ++ number c⟨After-slice_known⟩) (place c⟨After-slice_known⟩) (old c⟨After-slice_known⟩) _ c.put_field-2.new.out _ c.put_field-2.result (numbered c⟨After-put_field⟩) c.put_field-2.ensures
+    wrote_then (refused ++ field c.args.number) (field c.args.place) c.args.out.now _ c.put_field-2.new.out _ c.put_field-2.result (wrote_then refused (field c.args.number) c.args.out.now c.write_word-before.new.out c.put_field.new.out c.write_word-before.result c.put_field.result c.write_word-before.ensures c.put_field.ensures) c.put_field-2.ensures
 
 pub write_word-before-requires : goal.write_word-before-requires
 write_word-before-requires c =
-    front-room refused (number (goal.at.write_word-before-requires c).After-slice_known-1) (length (old (goal.at.write_word-before-requires c).After-slice_known-1)) (room-number (goal.at.write_word-before-requires c).After-slice_known-1)
+    front-room refused (number (goal.at.write_word-before-requires c).Start) (length (old (goal.at.write_word-before-requires c).Start)) (room-number (goal.at.write_word-before-requires c).Start)
 
 pub slice_bounds-put_field-count : goal.slice_bounds-put_field-count
 slice_bounds-put_field-count c =
-    behind-within refused (number (goal.at.slice_bounds-put_field-count c).After-slice_known-1) (old (goal.at.slice_bounds-put_field-count c).After-slice_known-1) c.write_word-before.new.out c.write_word-before.result c.write_word-before.ensures (room-number (goal.at.slice_bounds-put_field-count c).After-slice_known-1)
+    behind-within refused (number (goal.at.slice_bounds-put_field-count c).Start) (old (goal.at.slice_bounds-put_field-count c).Start) c.write_word-before.new.out c.write_word-before.result c.write_word-before.ensures (room-number (goal.at.slice_bounds-put_field-count c).Start)
 
 pub slice_bounds-put_field-start : goal.slice_bounds-put_field-start
 slice_bounds-put_field-start c = omega (arith, slice_bounds-put_field-count c)
 
 pub put_field-requires : goal.put_field-requires
 put_field-requires c =
-    omega (arith, length-field c.args.number c.ranges.number.fits, behind-room refused (number (goal.at.put_field-requires c).After-slice_known-1) (old (goal.at.put_field-requires c).After-slice_known-1) c.write_word-before.new.out c.write_word-before.result c.write_word-before.ensures (room-number (goal.at.put_field-requires c).After-slice_known-1))
+    omega (arith, length-field c.args.number c.ranges.number.fits, behind-room refused (number (goal.at.put_field-requires c).Start) (old (goal.at.put_field-requires c).Start) c.write_word-before.new.out c.write_word-before.result c.write_word-before.ensures (room-number (goal.at.put_field-requires c).Start))
 
 pub overflow_add-middle : goal.overflow_add-middle
-overflow_add-middle c = omega (arith, (numbered (goal.at.overflow_add-middle c).After-put_field).counted, room-number (goal.at.overflow_add-middle c).After-slice_known-1)
+overflow_add-middle c = omega (arith, (numbered (goal.at.overflow_add-middle c).After-put_field).counted, room-number (goal.at.overflow_add-middle c).Start)
 
 pub slice_bounds-put_field-count-2 : goal.slice_bounds-put_field-count-2
 slice_bounds-put_field-count-2 c =
-    behind-within (refused ++ number (goal.at.slice_bounds-put_field-count-2 c).After-slice_known-1) (place (goal.at.slice_bounds-put_field-count-2 c).After-slice_known-1) (old (goal.at.slice_bounds-put_field-count-2 c).After-slice_known-1) _ _ (numbered (goal.at.slice_bounds-put_field-count-2 c).After-put_field) (room-place (goal.at.slice_bounds-put_field-count-2 c).After-slice_known-1)
+    behind-within (refused ++ number (goal.at.slice_bounds-put_field-count-2 c).Start) (place (goal.at.slice_bounds-put_field-count-2 c).Start) (old (goal.at.slice_bounds-put_field-count-2 c).Start) _ _ (numbered (goal.at.slice_bounds-put_field-count-2 c).After-put_field) (room-place (goal.at.slice_bounds-put_field-count-2 c).Start)
 
 pub slice_bounds-put_field-start-2 : goal.slice_bounds-put_field-start-2
 slice_bounds-put_field-start-2 c = omega (arith, slice_bounds-put_field-count-2 c)
 
 pub put_field-requires-2 : goal.put_field-requires-2
 put_field-requires-2 c =
-    omega (arith, length-field c.args.place c.ranges.place.fits, behind-room (refused ++ number (goal.at.put_field-requires-2 c).After-slice_known-1) (place (goal.at.put_field-requires-2 c).After-slice_known-1) (old (goal.at.put_field-requires-2 c).After-slice_known-1) _ _ (numbered (goal.at.put_field-requires-2 c).After-put_field) (room-place (goal.at.put_field-requires-2 c).After-slice_known-1))
+    omega (arith, length-field c.args.place c.ranges.place.fits, behind-room (refused ++ number (goal.at.put_field-requires-2 c).Start) (place (goal.at.put_field-requires-2 c).Start) (old (goal.at.put_field-requires-2 c).Start) _ _ (numbered (goal.at.put_field-requires-2 c).After-put_field) (room-place (goal.at.put_field-requires-2 c).Start))
 
 pub overflow_add-end : goal.overflow_add-end
-overflow_add-end c = omega (arith, (placed (goal.at.overflow_add-end c).After-put_field-2).counted, room-place (goal.at.overflow_add-end c).After-slice_known-1)
+overflow_add-end c = omega (arith, (placed (goal.at.overflow_add-end c).After-put_field-2).counted, room-place (goal.at.overflow_add-end c).Start)
 
 pub slice_bounds-write_byte-count : goal.slice_bounds-write_byte-count
 slice_bounds-write_byte-count c =
-    behind-within (refused ++ number (goal.at.slice_bounds-write_byte-count c).After-slice_known-1 ++ place (goal.at.slice_bounds-write_byte-count c).After-slice_known-1) (line_feed ∷ []) (old (goal.at.slice_bounds-write_byte-count c).After-slice_known-1) _ _ (placed (goal.at.slice_bounds-write_byte-count c).After-put_field-2) (room (goal.at.slice_bounds-write_byte-count c).After-slice_known-1)
+    behind-within (refused ++ number (goal.at.slice_bounds-write_byte-count c).Start ++ place (goal.at.slice_bounds-write_byte-count c).Start) (line_feed ∷ []) (old (goal.at.slice_bounds-write_byte-count c).Start) _ _ (placed (goal.at.slice_bounds-write_byte-count c).After-put_field-2) (room (goal.at.slice_bounds-write_byte-count c).Start)
 
 pub slice_bounds-write_byte-start : goal.slice_bounds-write_byte-start
 slice_bounds-write_byte-start c = omega (arith, slice_bounds-write_byte-count c)
 
 pub write_byte-requires : goal.write_byte-requires
 write_byte-requires c =
-    behind-room (refused ++ number (goal.at.write_byte-requires c).After-slice_known-1 ++ place (goal.at.write_byte-requires c).After-slice_known-1) (line_feed ∷ []) (old (goal.at.write_byte-requires c).After-slice_known-1) _ _ (placed (goal.at.write_byte-requires c).After-put_field-2) (room (goal.at.write_byte-requires c).After-slice_known-1)
+    behind-room (refused ++ number (goal.at.write_byte-requires c).Start ++ place (goal.at.write_byte-requires c).Start) (line_feed ∷ []) (old (goal.at.write_byte-requires c).Start) _ _ (placed (goal.at.write_byte-requires c).After-put_field-2) (room (goal.at.write_byte-requires c).Start)
 
 pub returns : goal.returns
 unfolding refusal_text
 returns c =
-    wrote_then (refused ++ number (goal.at.returns c).After-slice_known-1 ++ place (goal.at.returns c).After-slice_known-1) (line_feed ∷ []) (old (goal.at.returns c).After-slice_known-1) _ c.write_byte.new.out _ c.write_byte.result (placed (goal.at.returns c).After-put_field-2) c.write_byte.ensures
+    wrote_then (refused ++ number (goal.at.returns c).Start ++ place (goal.at.returns c).Start) (line_feed ∷ []) (old (goal.at.returns c).Start) _ c.write_byte.new.out _ c.write_byte.result (placed (goal.at.returns c).After-put_field-2) c.write_byte.ensures
 
 pub overflow_add-result : goal.overflow_add-result
 overflow_add-result c = omega (arith, (returns c).counted, c.requires)

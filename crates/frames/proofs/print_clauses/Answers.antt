@@ -36,7 +36,7 @@ loop-next-init c =
 -- the group that comes next is due
 so_far : (c : In-Then) →
     PrintedSo (frames_text c.args.input.now) (net_of c.args.taken.net c.args.latches.now c.args.gates.now) c.args.taken.depth c.loop-next.sent (Then c.in-Then.group)
-so_far c = rw c.in-Then.is c.loop-next c.loop-next.invariant.3
+so_far c = rw c.in-Then.is at c.loop-next.invariant.3
 
 pub print_groups-piece-requires : goal.print_groups-piece-requires
 print_groups-piece-requires c =
@@ -81,7 +81,7 @@ loop-next-preserved c =
       c.print_groups-piece.auto.1.0 ∙ c.loop-next.invariant.1,
       c.loop-next.invariant.2,
       rw sent (piece-printed (so_far (goal.at.loop-next-preserved c).In-Then) (continues (goal.at.loop-next-preserved c).After-print_groups-piece)),
-      omega (arith, sent, rw c.in-Then.is c.loop-next c.loop-next.invariant.4, fewer, most (goal.at.loop-next-preserved c).After-print_groups-piece),
+      omega (arith, sent, rw c.in-Then.is at c.loop-next.invariant.4, fewer, most (goal.at.loop-next-preserved c).After-print_groups-piece),
     )
 
 pub returns : goal.returns

@@ -18,7 +18,6 @@ more :
     (c : After-count_end-ends) →
     c.count_end-ends.result ≡ length (clauses_in (get_or c.args.numbers.now c.loop-i.i (pos 0) ∷ []))
 more c =
-    let c.loop-i = c.loop-i in
     let numbers : List ℤ = c.args.numbers.now in
     c.count_end-ends.ensures.0 ∙ ap (λ (z : ℤ). length (clauses_in (z ∷ []))) (element-is numbers c.loop-i.i c.count_end-arg-1.given)
 

@@ -30,12 +30,12 @@ pub slice_bounds-count_ends-end : goal.slice_bounds-count_ends-end
 slice_bounds-count_ends-end c = (within (goal.at.slice_bounds-count_ends-end c).After-put_group-count).0
 
 pub slice_bounds-count_ends-end-2 : goal.slice_bounds-count_ends-end-2
-slice_bounds-count_ends-end-2 c = sym (length-take-le _ _ (within (goal.at.slice_bounds-count_ends-end-2 c).After-put_group-arg-1).0)
+slice_bounds-count_ends-end-2 c = sym (length-take-le _ _ (within (goal.at.slice_bounds-count_ends-end-2 c).After-put_group-count).0)
 
 -- and so are the clauses in them
 most : (c : After-count_ends) → c.count_ends.result ≤ 5992
 most c =
-    let group = within c⟨After-put_group-arg⟩ in
+    let group = within c⟨After-put_group⟩ in
     let e : length (take c.put_group-count.result c.put_group-count.new.out) ≡ c.put_group-count.result = length-take-le _ _ group.0 in
     omega (arith, c.count_ends.ensures.1, group.1)
 

@@ -51,3 +51,55 @@ loop-l-preserved c =
 pub returns : goal.returns
 returns c =
     rw (later-latches c.args.net c.args.latches.now c.args.i _ c.frame_base-before.ensures c.frame_base-b.ensures c.first_latch_wire-first.ensures) (turns-end c.loop-l.invariant (omega arith))
+
+pub overflow_add-i : goal.overflow_add-i
+unfolding net_of
+overflow_add-i c = search rules
+
+pub overflow_mul-d : goal.overflow_mul-d
+unfolding net_of
+overflow_mul-d c = search rules
+
+pub overflow_cast-d : goal.overflow_cast-d
+unfolding net_of
+overflow_cast-d c = search rules
+
+pub offset_bounds-latches-l : goal.offset_bounds-latches-l
+unfolding net_of
+offset_bounds-latches-l c = search rules
+
+pub bounds-latches-l : goal.bounds-latches-l
+unfolding net_of
+bounds-latches-l c = search rules
+
+pub offset_bounds-out-at : goal.offset_bounds-out-at
+unfolding net_of
+offset_bounds-out-at c = search rules
+
+pub slice_bounds-put_latch-count : goal.slice_bounds-put_latch-count
+unfolding net_of
+slice_bounds-put_latch-count c = search rules
+
+pub slice_bounds-put_latch-start : goal.slice_bounds-put_latch-start
+unfolding net_of
+slice_bounds-put_latch-start c = search rules
+
+pub slice_bounds-put_latch-end : goal.slice_bounds-put_latch-end
+unfolding net_of
+slice_bounds-put_latch-end c = search rules
+
+pub offset-requires : goal.offset-requires
+unfolding net_of
+offset-requires c = search rules
+
+pub overflow_add-l : goal.overflow_add-l
+unfolding net_of
+overflow_add-l c = search rules
+
+pub loop-l-smaller : goal.loop-l-smaller
+unfolding net_of
+loop-l-smaller c = search rules
+
+pub shape_of-out : goal.shape_of-out
+unfolding net_of
+shape_of-out c = search rules

@@ -44,3 +44,55 @@ loop-l-preserved c =
 pub returns : goal.returns
 returns c =
     rw (resets c.args.net c.args.latches.now _ c.frame_base-b.ensures c.first_latch_wire-first.ensures) (turns-end c.loop-l.invariant (omega arith))
+
+pub overflow_mul-reset : goal.overflow_mul-reset
+unfolding net_of
+overflow_mul-reset c = search rules
+
+pub overflow_add-reset : goal.overflow_add-reset
+unfolding net_of
+overflow_add-reset c = search rules
+
+pub overflow_cast-reset : goal.overflow_cast-reset
+unfolding net_of
+overflow_cast-reset c = search rules
+
+pub offset_bounds-latches-l : goal.offset_bounds-latches-l
+unfolding net_of
+offset_bounds-latches-l c = search rules
+
+pub bounds-latches-l : goal.bounds-latches-l
+unfolding net_of
+bounds-latches-l c = search rules
+
+pub offset_bounds-out-at : goal.offset_bounds-out-at
+unfolding net_of
+offset_bounds-out-at c = search rules
+
+pub slice_bounds-put_reset-count : goal.slice_bounds-put_reset-count
+unfolding net_of
+slice_bounds-put_reset-count c = search rules
+
+pub slice_bounds-put_reset-start : goal.slice_bounds-put_reset-start
+unfolding net_of
+slice_bounds-put_reset-start c = search rules
+
+pub slice_bounds-put_reset-end : goal.slice_bounds-put_reset-end
+unfolding net_of
+slice_bounds-put_reset-end c = search rules
+
+pub offset-requires : goal.offset-requires
+unfolding net_of
+offset-requires c = search rules
+
+pub overflow_add-l : goal.overflow_add-l
+unfolding net_of
+overflow_add-l c = search rules
+
+pub loop-l-smaller : goal.loop-l-smaller
+unfolding net_of
+loop-l-smaller c = search rules
+
+pub shape_of-out : goal.shape_of-out
+unfolding net_of
+shape_of-out c = search rules

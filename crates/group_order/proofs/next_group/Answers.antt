@@ -2,7 +2,7 @@
 -- its kind.
 
 use mathlib.Core.Path.{◌≡◌, refl, sym, ◌∙◌}
-use borrow.Author.Tests.{eq-eqb, ne_eqb, lt-ltb, le-ltb, not-true, not-false}
+use borrow.Author.Tests.{eq-eqb, ne_eqb, lt-ltb, le-ltb}
 use Rattle.model.specs.declared.Group.{Group}
 use Rattle.group_order.specs.declared.Next.{Next}
 use Rattle.group_order.proofs.Successor.{successor, Follows, follows, none-follows}
@@ -10,13 +10,13 @@ use Rattle.group_order.proofs.next_group.Goals as goal
 use Rattle.group_order.proofs.next_group.Goals.{Else-not-is_in_depth}
 
 pub returns-then-not-is_in_depth : goal.returns-then-not-is_in_depth
-returns-then-not-is_in_depth c = none-follows _ _ _ (sym c.is_in_depth.ensures ∙ not-true _ c.if-not-is_in_depth.true)
+returns-then-not-is_in_depth c = none-follows _ _ _ (sym c.is_in_depth.ensures ∙ c.if-not-is_in_depth.true)
 
 -- the group is one of the depth: its successor follows
 answer : (c : Else-not-is_in_depth) (g : Group) (r : Next) →
     c.args.group ≡ g → successor c.args.ports c.args.depth g ≡ r → Follows c.args.ports c.args.depth c.args.group r
 answer c g r e h =
-    follows _ _ c.requires _ g r (sym c.is_in_depth.ensures ∙ not-false _ c.if-not-is_in_depth.false) e h
+    follows _ _ c.requires _ g r (sym c.is_in_depth.ensures ∙ c.if-not-is_in_depth.false) e h
 
 pub returns-then-i-eq0 : goal.returns-then-i-eq0
 returns-then-i-eq0 c = answer (goal.at.returns-then-i-eq0 c).Else-not-is_in_depth _ _ c.in-Wires.is (rw (eq-eqb _ _ c.if-i-eq0.true))

@@ -45,3 +45,71 @@ loop-g-preserved c =
 pub returns : goal.returns
 returns c =
     rw (all-gates c.args.net c.args.gates.now c.args.i _ c.frame_base-b.ensures c.first_gate_wire-first.ensures) (turns-end c.loop-g.invariant (omega arith))
+
+pub overflow_mul-left : goal.overflow_mul-left
+unfolding net_of
+overflow_mul-left c = search rules
+
+pub overflow_cast-left : goal.overflow_cast-left
+unfolding net_of
+overflow_cast-left c = search rules
+
+pub offset_bounds-gates-g : goal.offset_bounds-gates-g
+unfolding net_of
+offset_bounds-gates-g c = search rules
+
+pub bounds-gates-g : goal.bounds-gates-g
+unfolding net_of
+bounds-gates-g c = search rules
+
+pub overflow_mul-right : goal.overflow_mul-right
+unfolding net_of
+overflow_mul-right c = search rules
+
+pub overflow_add-right : goal.overflow_add-right
+unfolding net_of
+overflow_add-right c = search rules
+
+pub overflow_cast-right : goal.overflow_cast-right
+unfolding net_of
+overflow_cast-right c = search rules
+
+pub offset_bounds-gates-g-in-loop-g : goal.offset_bounds-gates-g-in-loop-g
+unfolding net_of
+offset_bounds-gates-g-in-loop-g c = search rules
+
+pub bounds-gates-g-in-loop-g : goal.bounds-gates-g-in-loop-g
+unfolding net_of
+bounds-gates-g-in-loop-g c = search rules
+
+pub offset_bounds-out-at : goal.offset_bounds-out-at
+unfolding net_of
+offset_bounds-out-at c = search rules
+
+pub slice_bounds-put_gate-count : goal.slice_bounds-put_gate-count
+unfolding net_of
+slice_bounds-put_gate-count c = search rules
+
+pub slice_bounds-put_gate-start : goal.slice_bounds-put_gate-start
+unfolding net_of
+slice_bounds-put_gate-start c = search rules
+
+pub slice_bounds-put_gate-end : goal.slice_bounds-put_gate-end
+unfolding net_of
+slice_bounds-put_gate-end c = search rules
+
+pub offset-requires : goal.offset-requires
+unfolding net_of
+offset-requires c = search rules
+
+pub overflow_add-g : goal.overflow_add-g
+unfolding net_of
+overflow_add-g c = search rules
+
+pub loop-g-smaller : goal.loop-g-smaller
+unfolding net_of
+loop-g-smaller c = search rules
+
+pub shape_of-out : goal.shape_of-out
+unfolding net_of
+shape_of-out c = search rules

@@ -28,7 +28,7 @@ any_loop-requires c = limits-alone c.args.net [] c.args.gates.now c.requires
 pub returns-then-not-any_loop : goal.returns-then-not-any_loop
 returns-then-not-any_loop c =
     sym (loops-none c.depends_on_read-flags.ensures c.requires
-    (sym (any-loop-lists c.args.net [] c.args.gates.now (entry c.depends_on_read-flags.result)) ∙ sym c.any_loop.ensures ∙ not-true _ c.if-not-any_loop.true))
+    (sym (any-loop-lists c.args.net [] c.args.gates.now (entry c.depends_on_read-flags.result)) ∙ sym c.any_loop.ensures ∙ c.if-not-any_loop.true))
 
 pub control_line-last-requires : goal.control_line-last-requires
 control_line-last-requires c = sizes-lists c.args.net [] c.args.gates.now [] [] c.requires.sizes

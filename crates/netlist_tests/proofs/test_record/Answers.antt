@@ -42,7 +42,7 @@ returns-then-latch_count-net c = rw (sizes (goal.at.returns-then-latch_count-net
 -- sizes that the test passes are within their limits
 sizes-passed : (c : In_default) → SizesFit (alone c.args.net)
 sizes-passed c =
-    sizes-lists c.args.net c.args.latches.now c.args.gates.now [] [] ((sizes-fit _).0 ((test_lines-passes _ Size size_fault).0 (sizes c⟨After-test_sizes⟩ ∙ c.in_default.is)))
+    sizes-lists c.args.net c.args.latches.now c.args.gates.now [] [] ((sizes-fit _).0 ((test_lines-passes _ Size size_fault).0 (sym (test-sizes-lists c.args.net c.args.latches.now c.args.gates.now) ∙ sym c.test_sizes-sizes.ensures ∙ c.in_default.is)))
 
 pub test_codes-codes-requires : goal.test_codes-codes-requires
 test_codes-codes-requires c = sizes-passed (goal.at.test_codes-codes-requires c).In_default

@@ -28,7 +28,7 @@ returns-in-Refused c =
     let refused = c.in-Refused.is in
     let decided = depth-decides s (sym (told (goal.at.returns-in-Refused c).After-read_depth-line) ∙ refused) in
     let is : c.answer.result ≡ input_answer s = c.answer.ensures ∙ rw (refused, decided, c.empty_net.ensures) in
-    (is, (input-taken s _ _ _ is (rw decided tt), (only-refusals, λ none. input-encoded (input-taken s _ _ _ is (rw decided tt) none))))
+    record { answer = is; taken = input-taken s _ _ _ is (rw decided tt); refusals = only-refusals; encoded = λ none. input-encoded (input-taken s _ _ _ is (rw decided tt) none) }
 
 pub slice_bounds-read_sheet-count : goal.slice_bounds-read_sheet-count
 slice_bounds-read_sheet-count c = omega (arith, passed-long _ (depth-passed c))
@@ -44,4 +44,4 @@ returns c =
     let depth = c.read_depth-line.ensures.depth in
     let read = rw (behind-depth s) at c.read_sheet.ensures in
     let is : c.read_sheet.result ≡ input_answer s = read.0 ∙ rw (decided, depth) in
-    (is, (input-taken s _ _ _ is (rw decided read.1), (only-refusals, λ none. input-encoded (input-taken s _ _ _ is (rw decided read.1) none))))
+    record { answer = is; taken = input-taken s _ _ _ is (rw decided read.1); refusals = only-refusals; encoded = λ none. input-encoded (input-taken s _ _ _ is (rw decided read.1) none) }

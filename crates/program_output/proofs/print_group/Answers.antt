@@ -33,7 +33,7 @@ pub slice_bounds-write_numbers-end : goal.slice_bounds-write_numbers-end
 slice_bounds-write_numbers-end c = within (goal.at.slice_bounds-write_numbers-end c).After-put_group-count
 
 pub slice_bounds-write_numbers-end-2 : goal.slice_bounds-write_numbers-end-2
-slice_bounds-write_numbers-end-2 c = sym (length-take-le _ _ (within (goal.at.slice_bounds-write_numbers-end-2 c).After-put_group-arg-1))
+slice_bounds-write_numbers-end-2 c = sym (length-take-le _ _ (within (goal.at.slice_bounds-write_numbers-end-2 c).After-put_group-count))
 
 -- the numbers that are printed are the group's
 front : (c : After-put_group-count) → take c.put_group-count.result c.put_group-count.new.out ≡ numbers_of (net_of c.args.net c.args.latches.now c.args.gates.now) c.args.depth c.args.group
@@ -42,10 +42,10 @@ front c = wrote-front c.put_group-count.ensures.0
 pub write_numbers-requires : goal.write_numbers-requires
 write_numbers-requires c =
     let p = c.requires in
-    (p.3, rw (front (goal.at.write_numbers-requires c).After-put_group-arg-1) (omega (arith, text-most _ _ _ p.0 p.1 p.2, p.5)))
+    (p.3, rw (front (goal.at.write_numbers-requires c).After-put_group-count) (omega (arith, text-most _ _ _ p.0 p.1 p.2, p.5)))
 
 pub returns : goal.returns
 returns c =
     let p = c.requires in
-    let w = rw (front (goal.at.returns c).After-put_group-arg-1) at c.write_numbers.ensures in
+    let w = rw (front (goal.at.returns c).After-put_group-count) at c.write_numbers.ensures in
     record { wrote = (w, omega (arith, w.counted, text-most _ _ _ p.0 p.1 p.2)); scratch = search rules }

@@ -43,14 +43,13 @@ so_far : (c : In-Then) →
     c.args.text.now c.loop-bytes.text c.loop-bytes.bytes (Then c.in-Then.due) (c.args.group ∷ c.requires.2.behind)
 so_far c =
     let has = c.requires.2 in
-    rw c.in-Then.is c.loop-bytes
+    rw c.in-Then.is at
     (c.loop-bytes.invariant.3 has.before (c.args.group ∷ has.behind) has.order refl)
 
 -- the room that remains
 room : (c : In-Then) →
     c.loop-bytes.bytes + 71904 ≤ length c.loop-bytes.text
 room c =
-    let c.loop-bytes = c.loop-bytes in
     omega (arith, c.loop-bytes-test.true, c.loop-bytes.invariant.1, c.requires.5)
 
 pub slice_bounds-print_group-count : goal.slice_bounds-print_group-count
@@ -101,30 +100,21 @@ loop-bytes-preserved c =
       same ∙ c.loop-bytes.invariant.1,
       c.print_group-bytes.auto.1.0 ∙ c.loop-bytes.invariant.2,
       λ before from o h.
-          one_more before from o (rw c.in-Then.is c.loop-bytes (c.loop-bytes.invariant.3 before from o h)) c.print_group-bytes.new.text c.print_group-bytes.result
+          one_more before from o (rw c.in-Then.is at (c.loop-bytes.invariant.3 before from o h)) c.print_group-bytes.new.text c.print_group-bytes.result
           c.next_group-next.result c.print_group-bytes.ensures.wrote.0 (followed c).0,
       inr (omega (
         arith,
         (followed c).1,
-        rw c.in-Then.is c.loop-bytes (not_more (ports (alone c.args.net)) c.args.depth c.loop-bytes.bytes c.loop-bytes.next (Then c.args.group) c.loop-bytes.invariant.4),
+        rw c.in-Then.is at (not_more (ports (alone c.args.net)) c.args.depth c.loop-bytes.bytes c.loop-bytes.next (Then c.args.group) c.loop-bytes.invariant.4),
       )),
     )
 
 pub returns-after-loop-bytes : goal.returns-after-loop-bytes
 unfolding net_of
 returns-after-loop-bytes c =
-    (
-      λ text d. piece-continues d (c.loop-bytes.invariant.3 d.before d.groups d.order d.next-is),
-      (
-        omega (arith, fewer (ports (alone c.args.net)) c.args.depth c.loop-bytes.bytes c.loop-bytes.next (Then c.args.group) c.loop-bytes.invariant.4 (omega arith)),
-        (omega (arith, c.loop-bytes.invariant.0, c.loop-bytes.invariant.1), c.loop-bytes.invariant.2),
-      ),
-    )
+    record { text = λ text d. piece-continues d (c.loop-bytes.invariant.3 d.before d.groups d.order d.next-is); ends = omega (arith, fewer (ports (alone c.args.net)) c.args.depth c.loop-bytes.bytes c.loop-bytes.next (Then c.args.group) c.loop-bytes.invariant.4 (omega arith)); within = (omega (arith, c.loop-bytes.invariant.0, c.loop-bytes.invariant.1), c.loop-bytes.invariant.2); scratch =  }
 
 pub returns-in_default : goal.returns-in_default
 unfolding net_of
 returns-in_default c =
-    rw c.in_default.is (
-      λ text d. piece-continues d (rw c.in_default.is c.loop-bytes (c.loop-bytes.invariant.3 d.before d.groups d.order d.next-is)),
-      (omega arith, (omega (arith, c.loop-bytes.invariant.0, c.loop-bytes.invariant.1), c.loop-bytes.invariant.2)),
-    )
+    rw c.in_default.is (record { text = λ text d. piece-continues d (rw c.in_default.is at (c.loop-bytes.invariant.3 d.before d.groups d.order d.next-is)); ends = omega arith; within = omega (arith, c.loop-bytes.invariant.0, c.loop-bytes.invariant.1); scratch = c.loop-bytes.invariant.2 })

@@ -34,7 +34,7 @@ loop-next-init c =
 so_far : (c : In-Then) →
     SoFar (net_of c.args.net c.args.latches.now c.args.gates.now) c.args.depth c.args.out.now c.loop-next.out c.loop-next.at
     (Then c.in-Then.group)
-so_far c = rw c.in-Then.is c.loop-next c.loop-next.invariant.1
+so_far c = rw c.in-Then.is at c.loop-next.invariant.1
 
 pub slice_bounds-put_where_room-count : goal.slice_bounds-put_where_room-count
 slice_bounds-put_where_room-count c = omega (arith, c.smaller-from.ensures.0)
@@ -72,9 +72,9 @@ loop-next-preserved c =
     (
       c.put_where_room-at.auto.1.0 ∙ c.loop-next.invariant.0,
       one_more (so_far (goal.at.loop-next-preserved c).In-Then) c.put_where_room-at.new.out c.smaller-from.result c.put_where_room-at.result c.next_group-next.result c.smaller-from.ensures.0 c.smaller-from.ensures.1 c.put_where_room-at.ensures.put_where_room.0 (followed c).0,
-      omega (arith, rw c.in-Then.is c.loop-next c.loop-next.invariant.2, c.put_where_room-at.ensures.put_where_room.1, (followed c).1),
+      omega (arith, rw c.in-Then.is at c.loop-next.invariant.2, c.put_where_room-at.ensures.put_where_room.1, (followed c).1),
     )
 
 pub returns : goal.returns
 returns c =
-    (all-put (rw c.in_default.is c.loop-next c.loop-next.invariant.1), omega (arith, c.loop-next.invariant.2))
+    (all-put (rw c.in_default.is at c.loop-next.invariant.1), omega (arith, c.loop-next.invariant.2))

@@ -80,4 +80,4 @@ pub returns : goal.returns
 unfolding every among
 returns c =
     let none = drop_of_length-le c.args.lemma.now c.loop-i-test.false in
-    (rw none c.loop-i c.loop-i.invariant.3, (λ e z. sym (or-false (false_in c.loop-i.marks c.args.turn z)) ∙ rw none c.loop-i (c.loop-i.invariant.4 z), c.loop-i.invariant.2))
+    (rw none at c.loop-i.invariant.3, (λ e z. sym (or-false (false_in c.loop-i.marks c.args.turn z)) ∙ rw none c.loop-i (c.loop-i.invariant.4 z), c.loop-i.invariant.2))

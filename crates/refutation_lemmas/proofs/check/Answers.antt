@@ -135,17 +135,17 @@ pub overflow_add-at : goal.overflow_add-at
 overflow_add-at c = omega (arith, c.if-store-end.false, c.well_formed.0.0)
 
 pub overflow_add-i : goal.overflow_add-i
-overflow_add-i c = omega (arith, hints-there (goal.at.overflow_add-i c).After-is_justified c.if-is_justified.true, c.well_formed.1.1.0.0)
+overflow_add-i c = omega (arith, hints-there at c.if-is_justified.true, c.well_formed.1.1.0.0)
 
 pub overflow_add-lemma : goal.overflow_add-lemma
-overflow_add-lemma c = omega (arith, hints-there (goal.at.overflow_add-lemma c).After-is_justified c.if-is_justified.true, c.loop-i.invariant.1, c.well_formed.1.1.0.0)
+overflow_add-lemma c = omega (arith, hints-there at c.if-is_justified.true, c.loop-i.invariant.1, c.well_formed.1.1.0.0)
 
 pub loop-i-smaller : goal.loop-i-smaller
-loop-i-smaller c = omega (arith, hints-there (goal.at.loop-i-smaller c).After-is_justified c.if-is_justified.true, c.loop-i-test.true)
+loop-i-smaller c = omega (arith, hints-there at c.if-is_justified.true, c.loop-i-test.true)
 
 pub loop-i-preserved : goal.loop-i-preserved
 loop-i-preserved c =
-    let there = hints-there (goal.at.loop-i-preserved c).After-is_justified c.if-is_justified.true in
+    let there = hints-there at c.if-is_justified.true in
     let here = step (goal.at.loop-i-preserved c).After-is_justified true false c.if-is_justified.true (ne_eqb c.clause_end-end.result c.loop-i.at c.if-end-at.false) in (
       omega (arith, there),
       omega (arith, c.loop-i.invariant.1),

@@ -3,7 +3,7 @@
 use mathlib.Core.Path.{◌≡◌, refl, sym, ◌∙◌}
 use mathlib.Core.Bool.{true, false}
 use native.Mathlib.Omega.{arith}
-use borrow.Author.Tests.{lt-ltb, le-ltb, not-true, not-false}
+use borrow.Author.Tests.{lt-ltb, le-ltb}
 use Rattle.sheet_lines.specs.Letters.{row_of, is_known, content_of}
 use Rattle.sheet_lines.specs.Lines.{as_wanted}
 use Rattle.sheet_lines.proofs.Lines.{line_with-tests}
@@ -17,17 +17,17 @@ known c = lt-ltb (row_of c.args.kind) 10 (omega arith)
 first-wanted :
     (c : Else-not-is_wanted) →
     as_wanted (content_of c.args.kind 0) c.args.first ≡ true
-first-wanted c = sym c.is_wanted.ensures ∙ not-false _ c.if-not-is_wanted.false
+first-wanted c = sym c.is_wanted.ensures ∙ c.if-not-is_wanted.false
 
 second-wanted :
     (c : Else-not-is_wanted-2) →
     as_wanted (content_of c.args.kind 1) c.args.second ≡ true
-second-wanted c = sym c.is_wanted-2.ensures ∙ not-false _ c.if-not-is_wanted-2.false
+second-wanted c = sym c.is_wanted-2.ensures ∙ c.if-not-is_wanted-2.false
 
 third-wanted :
     (c : Else-not-is_wanted-3) →
     as_wanted (content_of c.args.kind 2) c.args.third ≡ true
-third-wanted c = sym c.is_wanted-3.ensures ∙ not-false _ c.if-not-is_wanted-3.false
+third-wanted c = sym c.is_wanted-3.ensures ∙ c.if-not-is_wanted-3.false
 
 pub returns-then-row_of-ge10 : goal.returns-then-row_of-ge10
 returns-then-row_of-ge10 c =
@@ -36,19 +36,19 @@ returns-then-row_of-ge10 c =
 
 pub returns-then-not-is_wanted : goal.returns-then-not-is_wanted
 returns-then-not-is_wanted c =
-    let other = sym c.is_wanted.ensures ∙ not-true _ c.if-not-is_wanted.true in
+    let other = sym c.is_wanted.ensures ∙ c.if-not-is_wanted.true in
     sym (line_with-tests c.args.kind c.args.first c.args.second c.args.third true false _ _ (known (goal.at.returns-then-not-is_wanted c).Else-row_of-ge10) other refl refl)
 
 pub returns-then-not-is_wanted-2 : goal.returns-then-not-is_wanted-2
 returns-then-not-is_wanted-2 c =
-    let other = sym c.is_wanted-2.ensures ∙ not-true _ c.if-not-is_wanted-2.true in
+    let other = sym c.is_wanted-2.ensures ∙ c.if-not-is_wanted-2.true in
     sym
     (line_with-tests c.args.kind c.args.first c.args.second c.args.third true true false _ (known (goal.at.returns-then-not-is_wanted-2 c).Else-row_of-ge10) (first-wanted (goal.at.returns-then-not-is_wanted-2 c).Else-not-is_wanted)
     other refl)
 
 pub returns-then-not-is_wanted-3 : goal.returns-then-not-is_wanted-3
 returns-then-not-is_wanted-3 c =
-    let other = sym c.is_wanted-3.ensures ∙ not-true _ c.if-not-is_wanted-3.true in
+    let other = sym c.is_wanted-3.ensures ∙ c.if-not-is_wanted-3.true in
     sym
     (line_with-tests c.args.kind c.args.first c.args.second c.args.third true true true false (known (goal.at.returns-then-not-is_wanted-3 c).Else-row_of-ge10)
     (first-wanted (goal.at.returns-then-not-is_wanted-3 c).Else-not-is_wanted) (second-wanted (goal.at.returns-then-not-is_wanted-3 c).Else-not-is_wanted-2) other)

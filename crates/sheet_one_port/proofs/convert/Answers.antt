@@ -23,7 +23,7 @@ pub returns-in-Refused : goal.returns-in-Refused
 unfolding print_reply one_port_verdict one_port_sent one_port_leaves with_count contents_after ◌then◌
 returns-in-Refused c =
     let v = sym c.read_one_port-sheet.ensures.verdict-is ∙ c.in-Refused.is in
-    (rw v, (rw v, one-port-theorem))
+    record { answer = rw v; borrowed = rw v; converted = one-port-theorem }
 
 -- the tests pass, and the record and the lists stand for a netlist with one port within its limits
 module _ (c : In_default) where
@@ -43,7 +43,7 @@ returns-then-out-control_line c =
     let agree = c.read_one_port-sheet.ensures.agrees v in
     let long = length-sheet_text _ (accepted-same _ _ agree (accepted-text c.args.file.now v)).limits in
     let short = room-short (length (one_port_text c.args.file.now)) (length c.args.out.now) (rw (text_same c.args.file.now agree) (omega (arith, long, c.if-out-control_line.true, c.control_line.ensures))) in
-    (rw (v, short), (rw (v, short), one-port-theorem))
+    record { answer = rw (v, short); borrowed = rw (v, short); converted = one-port-theorem }
 
 pub put_sheet-requires : goal.put_sheet-requires
 put_sheet-requires c = (sizes (goal.at.put_sheet-requires c).In_default, omega (arith, c.if-out-control_line.false, c.control_line.ensures))
@@ -57,4 +57,4 @@ returns c =
     let w = c.put_sheet.ensures in
     let text = text_same c.args.file.now agree in
     let enough = room-enough (length (one_port_text c.args.file.now)) (length c.args.out.now) (rw text (omega (arith, long, c.if-out-control_line.false, c.control_line.ensures))) in
-    (rw (v, enough, text, w.counted), (rw (v, enough, text) w.leaves, one-port-theorem))
+    record { answer = rw (v, enough, text, w.counted); borrowed = rw (v, enough, text) w.leaves; converted = one-port-theorem }

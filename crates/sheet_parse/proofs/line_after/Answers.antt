@@ -3,7 +3,6 @@
 use mathlib.Core.Path.{◌≡◌, sym, ◌∙◌}
 use mathlib.Core.Bool.{true}
 use native.Mathlib.Omega.{arith}
-use borrow.Author.Tests.{not-true, not-false}
 use Rattle.sheet_parse.specs.LineAnswers.{has_line}
 use Rattle.sheet_parse.proofs.LineAnswers.{line-there, after_none, after-there}
 use Rattle.sheet_parse.proofs.line_after.Goals as goal
@@ -11,11 +10,11 @@ use Rattle.sheet_parse.proofs.line_after.Goals.{Else-not-has_line}
 
 -- what the test that is passed says
 there : (c : Else-not-has_line) → has_line c.args.file.now c.args.line ≡ true
-there c = sym c.has_line.ensures ∙ not-false _ c.if-not-has_line.false
+there c = sym c.has_line.ensures ∙ c.if-not-has_line.false
 
 pub returns-then-not-has_line : goal.returns-then-not-has_line
 returns-then-not-has_line c =
-    c.no_line.ensures ∙ sym (after_none c.args.file.now c.args.line (sym c.has_line.ensures ∙ not-true _ c.if-not-has_line.true))
+    c.no_line.ensures ∙ sym (after_none c.args.file.now c.args.line (sym c.has_line.ensures ∙ c.if-not-has_line.true))
 
 pub overflow_add-place : goal.overflow_add-place
 overflow_add-place c =

@@ -42,23 +42,22 @@ store-next-requires c =
 pub test_stored-verdict-requires : goal.test_stored-verdict-requires
 test_stored-verdict-requires c =
     let next = c.store-next.result in
-    (sizes_known-step c.args.net next c.args.latches.now c.args.gates.now _ _ c.args.kind c.args.place c.args.first c.args.second c.args.third c.args.empty (taken (goal.at.test_stored-verdict-requires c).After-store-arg-1) c.requires.1, c.line_due-due.ensures ∙ due-step c.args.net next c.args.latches.now c.args.gates.now _ _ c.args.kind c.args.place c.args.first c.args.second c.args.third c.args.empty (taken (goal.at.test_stored-verdict-requires c).After-store-arg-1))
+    (sizes_known-step c.args.net next c.args.latches.now c.args.gates.now _ _ c.args.kind c.args.place c.args.first c.args.second c.args.third c.args.empty (taken c) c.requires.1, c.line_due-due.ensures ∙ due-step c.args.net next c.args.latches.now c.args.gates.now _ _ c.args.kind c.args.place c.args.first c.args.second c.args.third c.args.empty (taken c))
 
 -- the verdict on it, in the record with its lists
 judged : (c : After-test_stored-verdict) →
     c.test_stored-verdict.result ≡ step_verdict (net_of c.args.net c.args.latches.now c.args.gates.now) c.args.kind c.args.first c.args.second c.args.third c.args.empty c.args.place
 judged c =
-    let c.args = c.args in
     let d = net_of c.args.net c.args.latches.now c.args.gates.now in
     c.test_stored-verdict.ensures
-    ∙ rw ((taken c⟨After-store-arg⟩).net-is, due c⟨Start⟩)
-    (sym (step-due d c.args.kind c.args.place c.args.first c.args.second c.args.third c.args.empty (sym (tested c⟨After-line_due⟩) ∙ c.if-is_past_last-is_due.false)))
+    ∙ rw ((taken c⟨After-store⟩).net-is, due c⟨After-line_due⟩)
+    (sym (step-due d c.args.kind c.args.place c.args.first c.args.second c.args.third c.args.empty (sym (tested c⟨After-is_due⟩) ∙ c.if-is_past_last-is_due.false)))
 
 pub returns-in-Refused : goal.returns-in-Refused
 returns-in-Refused c =
-    rw c.refused-in-Refused.ensures (outcome-refused _ _ _ (sym (judged (goal.at.returns-in-Refused c).After-test_stored-verdict) ∙ c.in-Refused.is))
+    rw c.refused-in-Refused.ensures (outcome-refused _ _ _ (sym (judged at) ∙ c.in-Refused.is))
 
 pub returns : goal.returns
 returns c =
     rw c.in_default.is
-    (outcome-passed _ _ _ c.store-next.result (taken (goal.at.returns c).After-store-arg-1) (sym (judged (goal.at.returns c).After-test_stored-verdict) ∙ c.in_default.is))
+    (outcome-passed _ _ _ c.store-next.result (taken (goal.at.returns c).After-store-next) (sym (judged at) ∙ c.in_default.is))

@@ -28,12 +28,12 @@ ended : (c : After-test_end-ended) → c.test_end-ended.result ≡ end_verdict (
 ended c =
     c.test_end-ended.ensures
     ∙ end-latches c.read_lines-sheet.result.net c.read_lines-sheet.new.latches.0 c.read_lines-sheet.new.latches.1.0 (line_count c.args.file.now)
-    ∙ rw (holds c.read_lines-sheet.ensures (passed_lines c⟨At-match-keys2⟩)).net-is
+    ∙ rw (holds c.read_lines-sheet.ensures (passed_lines c⟨After-enum_told2⟩)).net-is
 
 -- so they are the rest of the file's verdict
 file-ended : (c : After-test_end-ended) → file_verdict c.args.file.now ≡ c.test_end-ended.result
 file-ended c =
-    file-lines c.args.file.now (even c⟨After-is_ragged⟩) (passed_lines c⟨At-match-keys2⟩) ∙ sym (ended c)
+    file-lines c.args.file.now (even c⟨Else1⟩) (passed_lines c⟨After-enum_told2⟩) ∙ sym (ended c)
 
 pub returns-then-is_ragged : goal.returns-then-is_ragged
 returns-then-is_ragged c =
@@ -58,8 +58,8 @@ overflow_cast-count c = record { fits = omega (arith, (whole-lines c.args.file.n
 pub test_end-ended-requires : goal.test_end-ended-requires
 test_end-ended-requires c =
     let file = c.args.file.now in
-    let passed = passed_lines (goal.at.test_end-ended-requires c).In_default-1 in
-    (omega (arith, (whole-lines file (even (goal.at.test_end-ended-requires c).After-is_ragged)).most), lines-passed file c.read_lines-sheet.result.net c.read_lines-sheet.new.latches.0 c.read_lines-sheet.new.latches.1.0 passed (holds c.read_lines-sheet.ensures passed).net-is)
+    let passed = passed_lines (goal.at.test_end-ended-requires c).In_default in
+    (omega (arith, (whole-lines file (even (goal.at.test_end-ended-requires c).Else-is_ragged)).most), lines-passed file c.read_lines-sheet.result.net c.read_lines-sheet.new.latches.0 c.read_lines-sheet.new.latches.1.0 passed (holds c.read_lines-sheet.ensures passed).net-is)
 
 pub returns-in-Refused-ended : goal.returns-in-Refused-ended
 returns-in-Refused-ended c =
@@ -70,4 +70,4 @@ pub returns : goal.returns
 returns c =
     let file = c.args.file.now in
     let passed = file-ended (goal.at.returns c).After-test_end-ended ∙ c.in_default-ended.is in
-    outcome-same (file_verdict file) (passed_lines (goal.at.returns c).In_default-1 ∙ sym passed) (λ _. refl) c.read_lines-sheet.ensures
+    outcome-same (file_verdict file) (passed_lines (goal.at.returns c).In_default ∙ sym passed) (λ _. refl) c.read_lines-sheet.ensures

@@ -63,7 +63,7 @@ unfolding net_of line_at
 returns c =
     let all : c.loop-place.place ≡ c.control_line-last.result = omega arith in
     rw (placed (net_of c.args.net c.args.latches.now c.args.gates.now) (omega (arith, c.requires.0.kind_fits)))
-    (rw (all, c.control_line-last.ensures) c.loop-place c.loop-place.invariant.3)
+    (rw (all, c.control_line-last.ensures) at c.loop-place.invariant.3)
 
 pub overflow_add-place-in-loop-place : goal.overflow_add-place-in-loop-place
 overflow_add-place-in-loop-place c = omega arith

@@ -25,14 +25,14 @@ pub returns-in-Refused : goal.returns-in-Refused
 unfolding print_reply write_sheet_verdict write_sent write_leaves with_count contents_after ◌then◌
 returns-in-Refused c =
     let v = sym c.test_record.ensures ∙ c.in-Refused.is in
-    (rw v, (rw v, sheet-written))
+    record { answer = rw v; borrowed = rw v; written = sheet-written }
 
 -- the record is accepted, its sizes fit, and so its sheet is so long
 module _ (c : In_default) where
   passed : record_verdict (net_of c.args.net c.args.latches.now c.args.gates.now) c.args.latch_count c.args.gate_count ≡ Passed
   passed = sym c.test_record.ensures ∙ c.in_default.is
 
-  accepted : let c.args = c.args in Accepted (net_of c.args.net c.args.latches.now c.args.gates.now)
+  accepted : Accepted (net_of c.args.net c.args.latches.now c.args.gates.now)
   accepted = ((passes-accepted _ _ _).0 passed).0
 
 pub control_line-requires : goal.control_line-requires
@@ -43,7 +43,7 @@ unfolding net_of print_reply write_sheet_verdict write_sent write_leaves with_co
 returns-then-out-control_line c =
     let v = passed (goal.at.returns-then-out-control_line c).In_default in
     let short = room-short (length (sheet_text (net_of c.args.net c.args.latches.now c.args.gates.now))) (length c.args.out.now) (omega (arith, length-sheet_text _ (accepted (goal.at.returns-then-out-control_line c).In_default).limits, c.if-out-control_line.true, c.control_line.ensures)) in
-    (rw (v, short), (rw (v, short), sheet-written))
+    record { answer = rw (v, short); borrowed = rw (v, short); written = sheet-written }
 
 pub put_sheet-requires : goal.put_sheet-requires
 put_sheet-requires c =
@@ -55,4 +55,4 @@ returns c =
     let v = passed (goal.at.returns c).In_default in
     let w = c.put_sheet.ensures in
     let enough = room-enough (length (sheet_text (net_of c.args.net c.args.latches.now c.args.gates.now))) (length c.args.out.now) (omega (arith, length-sheet_text _ (accepted (goal.at.returns c).In_default).limits, c.if-out-control_line.false, c.control_line.ensures)) in
-    (rw (v, enough, w.counted), (rw (v, enough) w.leaves, sheet-written))
+    record { answer = rw (v, enough, w.counted); borrowed = rw (v, enough) w.leaves; written = sheet-written }

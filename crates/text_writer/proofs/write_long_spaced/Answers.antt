@@ -26,7 +26,7 @@ room c = rw (digits-behind-four c.args.x (space ∷ []) c.requires.1) at c.requi
 
 first :
     (c : After-write_leading-first) →
-    Wrote (leading c⟨Start⟩) c.args.out.now c.write_leading-first.new.out c.write_leading-first.result
+    Wrote (digits (c.args.x / 10000)) c.args.out.now c.write_leading-first.new.out c.write_leading-first.result
 first c = rw c.ten_thousands-high.ensures at c.write_leading-first.ensures
 
 pub write_leading-first-requires : goal.write_leading-first-requires

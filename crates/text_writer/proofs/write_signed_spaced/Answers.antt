@@ -53,9 +53,9 @@ shape_of-out c =
     let old : List ℕ = c.args.out.now in
     let signed : List ℕ = set old c.args.at minus_sign in
     let first : ℕ = c.args.at + c.parts_of-parts.result.sign in
-    same_len_mid first (length signed - first) signed c.write_spaced.new.out c.write_spaced.auto.0 ∙ length-set old c.args.at minus_sign
+    same_len_mid first (length signed - first) signed c.write_spaced.new.out c.write_spaced.auto.out ∙ length-set old c.args.at minus_sign
 
 pub returns : goal.returns
 returns c =
     rw (parts_are (goal.at.returns c).After-parts_of-parts)
-    (wrote-signed c.args.z (space ∷ []) c.args.out.now c.write_spaced.new.out c.args.at c.write_spaced.result (bounds-out-at (goal.at.returns c).After-parts_of-parts) (rw (parts_are (goal.at.returns c).After-parts_of-parts) (goal.at.returns c).After-parts_of-parts c.write_spaced.ensures))
+    (wrote-signed c.args.z (space ∷ []) c.args.out.now c.write_spaced.new.out c.args.at c.write_spaced.result (bounds-out-at (goal.at.returns c).After-parts_of-parts) (rw (parts_are (goal.at.returns c).After-parts_of-parts) at c.write_spaced.ensures))
