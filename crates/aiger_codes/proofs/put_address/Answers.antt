@@ -42,14 +42,13 @@ loop-t-smaller c = omega arith
 
 pub loop-t-preserved : goal.loop-t-preserved
 unfolding output_code
-loop-t-preserved c =
-    (
-      omega arith,
-      (
-        ap (λ (r : Netlist). with_address r (set c.loop-t.next.address c.loop-t.t c.code_of.result)) c.loop-t.invariant.1.0,
-        coded-next 12 (output_code c.args.table.now) c.loop-t.next.address c.loop-t.t c.code_of.result.0 (omega arith) c.code_of.ensures c.loop-t.invariant.1.1,
-      ),
-    )
+loop-t-preserved c = (
+  omega arith,
+  (
+    ap (λ (r : Netlist). with_address r (set c.loop-t.next.address c.loop-t.t c.code_of.result)) c.loop-t.invariant.1.0,
+    coded-next 12 (output_code c.args.table.now) c.loop-t.next.address c.loop-t.t c.code_of.result.0 (omega arith) c.code_of.ensures c.loop-t.invariant.1.1,
+  ),
+)
 
 pub returns : goal.returns
 returns c =

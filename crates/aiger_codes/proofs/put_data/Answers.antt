@@ -47,14 +47,13 @@ pub loop-t-smaller : goal.loop-t-smaller
 loop-t-smaller c = omega arith
 
 pub loop-t-preserved : goal.loop-t-preserved
-loop-t-preserved c =
-    (
-      omega arith,
-      (
-        ap (λ (r : Netlist). with_data r (set c.loop-t.next.write_data c.loop-t.t c.code_of.result)) c.loop-t.invariant.1.0,
-        coded-next 32 (λ x. output_code c.args.table.now (c.args.net.m + x)) c.loop-t.next.write_data c.loop-t.t c.code_of.result.0 (omega arith) (c.code_of.ensures ∙ output-at c.args.table.now (c.args.net.m + c.loop-t.t) _ (omega arith)) c.loop-t.invariant.1.1,
-      ),
-    )
+loop-t-preserved c = (
+  omega arith,
+  (
+    ap (λ (r : Netlist). with_data r (set c.loop-t.next.write_data c.loop-t.t c.code_of.result)) c.loop-t.invariant.1.0,
+    coded-next 32 (λ x. output_code c.args.table.now (c.args.net.m + x)) c.loop-t.next.write_data c.loop-t.t c.code_of.result.0 (omega arith) (c.code_of.ensures ∙ output-at c.args.table.now (c.args.net.m + c.loop-t.t) _ (omega arith)) c.loop-t.invariant.1.1,
+  ),
+)
 
 pub returns : goal.returns
 returns c =

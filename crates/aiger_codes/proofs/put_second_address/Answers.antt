@@ -65,14 +65,13 @@ pub loop-t-smaller : goal.loop-t-smaller
 loop-t-smaller c = omega arith
 
 pub loop-t-preserved : goal.loop-t-preserved
-loop-t-preserved c =
-    (
-      (omega arith, omega arith),
-      (
-        ap (λ (r : Netlist). with_second r (set c.loop-t.next.address2 c.loop-t.t c.code_of.result)) c.loop-t.invariant.1.0,
-        coded-next 12 (λ x. output_code c.args.table.now (c.args.net.m + c.args.net.n + x)) c.loop-t.next.address2 c.loop-t.t c.code_of.result.0 (omega arith) (c.code_of.ensures ∙ output-at c.args.table.now (c.args.net.m + c.args.net.n + c.loop-t.t) _ (omega arith)) c.loop-t.invariant.1.1,
-      ),
-    )
+loop-t-preserved c = (
+  (omega arith, omega arith),
+  (
+    ap (λ (r : Netlist). with_second r (set c.loop-t.next.address2 c.loop-t.t c.code_of.result)) c.loop-t.invariant.1.0,
+    coded-next 12 (λ x. output_code c.args.table.now (c.args.net.m + c.args.net.n + x)) c.loop-t.next.address2 c.loop-t.t c.code_of.result.0 (omega arith) (c.code_of.ensures ∙ output-at c.args.table.now (c.args.net.m + c.args.net.n + c.loop-t.t) _ (omega arith)) c.loop-t.invariant.1.1,
+  ),
+)
 
 pub returns : goal.returns
 returns c =

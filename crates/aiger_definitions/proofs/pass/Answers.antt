@@ -9,13 +9,12 @@ use Rattle.aiger_definitions.proofs.Passes.{pass-starts, pass-next, all-marked}
 use Rattle.aiger_definitions.proofs.pass.Goals as goal
 
 pub loop-line-init : goal.loop-line-init
-loop-line-init c =
-    (
-      pass-starts c.args.look c.args.text.now c.args.lines c.args.base 4294967296 c.requires.5 c.requires.1.some-line c.requires.2 c.requires.3,
-      c.requires.0.behind,
-      c.requires.0.counts-are,
-      refl,
-    )
+loop-line-init c = (
+  pass-starts c.args.look c.args.text.now c.args.lines c.args.base 4294967296 c.requires.5 c.requires.1.some-line c.requires.2 c.requires.3,
+  c.requires.0.behind,
+  c.requires.0.counts-are,
+  refl,
+)
 
 pub next_variables-read-requires : goal.next_variables-read-requires
 next_variables-read-requires c =

@@ -24,7 +24,10 @@ pass-others-requires c =
 pub returns : goal.returns
 returns c =
     let operands = c.pass-operands.ensures in
-    let others = c.pass-others.ensures in record { judged = (
+    let others = c.pass-others.ensures in record {
+      judged = (
         rw (c.smaller.ensures, c.smaller-2.ensures) (judged-either operands.0.0 others.0.0),
         rw c.smaller-2.ensures (min-above operands.0.1 others.0.1),
-      ); size = others.1.1 ∙ operands.1.1 ∙ c.clear.ensures.0 }
+      );
+      size = others.1.1 ∙ operands.1.1 ∙ c.clear.ensures.0;
+    }

@@ -24,8 +24,7 @@ returns-then-limit-numbers c =
 pub loop-i-preserved : goal.loop-i-preserved
 loop-i-preserved c =
     let numbers = c.args.numbers in
-    let count = in-length numbers c.requires in
-    (
+    let count = in-length numbers c.requires in (
       omega arith,
       sym (above-later c.args.limit (numbers_held numbers) c.loop-i.i (omega (arith, count)) (omega (arith, in-at numbers c.loop-i.i (omega arith))))
           ∙ c.loop-i.invariant.1,

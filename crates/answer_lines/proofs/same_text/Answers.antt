@@ -22,12 +22,11 @@ pub loop-i-smaller : goal.loop-i-smaller
 loop-i-smaller c = omega arith
 
 pub loop-i-preserved : goal.loop-i-preserved
-loop-i-preserved c =
-    (
-      omega arith,
-      omega arith,
-      same_step c.args.text.now c.args.other.now c.loop-i.i (omega arith) (omega arith) c.loop-i.invariant.2 c.if-text-i.true,
-    )
+loop-i-preserved c = (
+  omega arith,
+  omega arith,
+  same_step c.args.text.now c.args.other.now c.loop-i.i (omega arith) (omega arith) c.loop-i.invariant.2 c.if-text-i.true,
+)
 
 pub returns-else-text-i : goal.returns-else-text-i
 returns-else-text-i c =

@@ -22,8 +22,11 @@ slice_bounds-is_comment-end-2 c =
 
 pub returns-then-is_comment : goal.returns-then-is_comment
 returns-then-is_comment c =
-    let at = c.args.at in record { holds = c.requires; taken = passed-taken
-          (ahead-comment at.progress (line_begun at c.args.line.now) c.args.byte c.if-byte-eq10.false (sym c.is_comment.ensures ∙ c.if-is_comment.true)) }
+    let at = c.args.at in record {
+      holds = c.requires;
+      taken = passed-taken
+          (ahead-comment at.progress (line_begun at c.args.line.now) c.args.byte c.if-byte-eq10.false (sym c.is_comment.ensures ∙ c.if-is_comment.true));
+    }
 
 pub slice_bounds-is_marked-end-then-byte-eq32 : goal.slice_bounds-is_marked-end-then-byte-eq32
 slice_bounds-is_marked-end-then-byte-eq32 c =
@@ -42,29 +45,27 @@ returns-then-is_marked c =
     let m = sym c.is_marked.ensures ∙ c.if-is_marked.true in record { holds = holds-short c.end_number.result c.requires c.end_number.ensures.short; taken = rw c.if-byte-eq32.true (number-taken c.requires m c.end_number.ensures) }
 
 pub put_byte-requires : goal.put_byte-requires
-put_byte-requires c =
-    (
-      c.requires,
-      record {
-        no-comment = sym c.is_comment.ensures ∙ c.if-is_comment.false;
-        no-line-feed = c.if-byte-eq10.false;
-        no_end = λ e. sym c.is_marked.ensures ∙ c.if-is_marked.false;
-      },
-    )
+put_byte-requires c = (
+  c.requires,
+  record {
+    no-comment = sym c.is_comment.ensures ∙ c.if-is_comment.false;
+    no-line-feed = c.if-byte-eq10.false;
+    no_end = λ e. sym c.is_marked.ensures ∙ c.if-is_marked.false;
+  },
+)
 
 pub returns-then-byte-eq32 : goal.returns-then-byte-eq32
 returns-then-byte-eq32 c = record { holds = c.put_byte.ensures.holds; taken = passed-taken c.put_byte.ensures.passed }
 
 pub put_byte-requires-2 : goal.put_byte-requires-2
-put_byte-requires-2 c =
-    (
-      c.requires,
-      record {
-        no-comment = sym c.is_comment.ensures ∙ c.if-is_comment.false;
-        no-line-feed = c.if-byte-eq10.false;
-        no_end = λ e. absurd (c.if-byte-eq32.false e);
-      },
-    )
+put_byte-requires-2 c = (
+  c.requires,
+  record {
+    no-comment = sym c.is_comment.ensures ∙ c.if-is_comment.false;
+    no-line-feed = c.if-byte-eq10.false;
+    no_end = λ e. absurd (c.if-byte-eq32.false e);
+  },
+)
 
 pub returns : goal.returns
 returns c = record { holds = c.put_byte-2.ensures.holds; taken = passed-taken c.put_byte-2.ensures.passed }

@@ -16,6 +16,9 @@ read_words-words-requires c =
 pub returns : goal.returns
 unfolding net_of read_data address_of
 returns c =
-    record { values = λ s f held fed. below-same c.evaluate-2.ensures (λ w h.
+    record {
+      values = λ s f held fed. below-same c.evaluate-2.ensures (λ w h.
           frame-alike c.requires.0 (holds-lists c.args.net [] [] [] c.args.gates.now held) (fed-lists c.args.net [] [] [] c.args.gates.now fed) c.evaluate.ensures
-          c.read_words-words.result c.read_words-words.ensures w (omega arith)); words = reads_in c.requires.0.codes (entry c.args.inputs.now) (entry c.args.state.now) c.read_words-words.result c.evaluate-2.ensures }
+          c.read_words-words.result c.read_words-words.ensures w (omega arith));
+      words = reads_in c.requires.0.codes (entry c.args.inputs.now) (entry c.args.state.now) c.read_words-words.result c.evaluate-2.ensures;
+    }

@@ -55,12 +55,11 @@ loop-l-smaller c =
 
 pub loop-l-preserved : goal.loop-l-preserved
 unfolding net_of
-loop-l-preserved c =
-    (
-      omega arith,
-      simp length-set c.loop-l.invariant.1,
-      set_next c.loop-l.state (omega (arith, c.requires.0.sizes)) c.loop-l.invariant.1 c.loop-l.invariant.2 c.code_value.ensures,
-    )
+loop-l-preserved c = (
+  omega arith,
+  simp length-set c.loop-l.invariant.1,
+  set_next c.loop-l.state (omega (arith, c.requires.0.sizes)) c.loop-l.invariant.1 c.loop-l.invariant.2 c.code_value.ensures,
+)
 
 pub returns : goal.returns
 unfolding net_of

@@ -94,12 +94,11 @@ loop-g-smaller c =
 
 pub loop-g-preserved : goal.loop-g-preserved
 unfolding net_of
-loop-g-preserved c =
-    (
-      omega arith,
-      worked-next c.requires c.loop-g-test.true c.loop-g.invariant.1
-          (omega (arith, c.index-first.ensures, c.first_gate_wire.ensures)) c.code_value-left.ensures c.code_value-right.ensures,
-    )
+loop-g-preserved c = (
+  omega arith,
+  worked-next c.requires c.loop-g-test.true c.loop-g.invariant.1
+      (omega (arith, c.index-first.ensures, c.first_gate_wire.ensures)) c.code_value-left.ensures c.code_value-right.ensures,
+)
 
 pub returns : goal.returns
 unfolding net_of

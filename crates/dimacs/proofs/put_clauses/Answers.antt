@@ -10,12 +10,11 @@ use Rattle.dimacs.proofs.PrintCalls.{written, not_written}
 use Rattle.dimacs.proofs.put_clauses.Goals as goal
 
 pub write_numbers-requires : goal.write_numbers-requires
-write_numbers-requires c =
-    (
-      λ long. absurd (omega (arith, long)),
-      leb-true (length (clause_text c.args.numbers.now)) (length c.args.out.now)
-          (sym c.clauses_fit.ensures ∙ c.if-clauses_fit.true),
-    )
+write_numbers-requires c = (
+  λ long. absurd (omega (arith, long)),
+  leb-true (length (clause_text c.args.numbers.now)) (length c.args.out.now)
+      (sym c.clauses_fit.ensures ∙ c.if-clauses_fit.true),
+)
 
 pub returns-then-clauses_fit : goal.returns-then-clauses_fit
 returns-then-clauses_fit c =

@@ -8,8 +8,11 @@ pub returns : goal.returns
 returns c =
     let p = c.requires in
     let first = c.product-2.ensures in
-    let second = c.product.ensures in record { value = (
+    let second = c.product.ensures in record {
+      value = (
         rw (first.0, second.0, c.other_pairs.ensures.0)
             (some-counted _ c.args.depth _ _ _ p.1 c.count_pair-first.ensures.value.0 c.count_later_pairs-later.ensures.value.0 c.count_pair-far.ensures.value.0),
         search rules,
-      ); scratch = search rules }
+      );
+      scratch = search rules;
+    }

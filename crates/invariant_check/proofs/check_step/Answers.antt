@@ -34,8 +34,7 @@ pub returns-then-holds_at_start : goal.returns-then-holds_at_start
 unfolding step_found step_scratch
 returns-then-holds_at_start c =
     let laid = c.lay-front.ensures in
-    let holds = sym (start-lists c.args.net c.args.latches.now c.args.gates.now c.args.invariant.now) ∙ sym c.holds_at_start.ensures ∙ c.if-holds_at_start.true in
-    (
+    let holds = sym (start-lists c.args.net c.args.latches.now c.args.gates.now c.args.invariant.now) ∙ sym c.holds_at_start.ensures ∙ c.if-holds_at_start.true in (
       rw holds (laid-found _ c.args.lemmas.now c.args.store.now _ laid.1 _ _ _ _ laid.0 c.check.ensures.answer),
       (laid.1, rw holds (all-scratch c.args.marks.now c.check.new.front.1.1.0 c.check.ensures.refuted.1)),
     )

@@ -10,19 +10,17 @@ use Rattle.marrubigai.proofs.marrubigai_next_group.Goals as goal
 
 pub returns-then-ports-eq0 : goal.returns-then-ports-eq0
 unfolding group_of
-returns-then-ports-eq0 c =
-    (
-      λ xs ys e. absurd (no-group (order-zero c.args.ports c.args.depth c.if-ports-eq0.true) xs ys _ e),
-      (λ none. c.next_numbers.ensures, order-first _ _),
-    )
+returns-then-ports-eq0 c = (
+  λ xs ys e. absurd (no-group (order-zero c.args.ports c.args.depth c.if-ports-eq0.true) xs ys _ e),
+  (λ none. c.next_numbers.ensures, order-first _ _),
+)
 
 pub returns-then-ports-gt2 : goal.returns-then-ports-gt2
 unfolding group_of
-returns-then-ports-gt2 c =
-    (
-      λ xs ys e. absurd (no-group (order-many c.args.ports c.args.depth c.if-ports-gt2.true) xs ys _ e),
-      (λ none. c.next_numbers-then-ports-gt2.ensures, order-first _ _),
-    )
+returns-then-ports-gt2 c = (
+  λ xs ys e. absurd (no-group (order-many c.args.ports c.args.depth c.if-ports-gt2.true) xs ys _ e),
+  (λ none. c.next_numbers-then-ports-gt2.ensures, order-first _ _),
+)
 
 pub returns : goal.returns
 unfolding group_of

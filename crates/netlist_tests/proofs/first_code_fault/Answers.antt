@@ -54,14 +54,13 @@ pub loop-place-smaller : goal.loop-place-smaller
 loop-place-smaller c = omega arith
 
 pub loop-place-preserved : goal.loop-place-preserved
-loop-place-preserved c =
-    (
-      omega arith,
-      passed-next (net_of c.args.net c.args.latches.now c.args.gates.now) CodeOutside code_fault
-          c.loop-place.place
-          c.loop-place.invariant.1
-          (tested (goal.at.loop-place-preserved c).After-code_fault ∙ c.if-code_fault.false),
-    )
+loop-place-preserved c = (
+  omega arith,
+  passed-next (net_of c.args.net c.args.latches.now c.args.gates.now) CodeOutside code_fault
+      c.loop-place.place
+      c.loop-place.invariant.1
+      (tested (goal.at.loop-place-preserved c).After-code_fault ∙ c.if-code_fault.false),
+)
 
 pub returns : goal.returns
 unfolding net_of

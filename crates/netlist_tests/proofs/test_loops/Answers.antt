@@ -43,11 +43,10 @@ overflow_add-place-2 c = omega (arith, c.requires.sizes)
 
 pub loop-place-init : goal.loop-place-init
 unfolding net_of
-loop-place-init c =
-    (
-      omega (arith, c.control_line-last.ensures),
-      loops-before (net_of c.args.net [] c.args.gates.now) _ (omega arith),
-    )
+loop-place-init c = (
+  omega (arith, c.control_line-last.ensures),
+  loops-before (net_of c.args.net [] c.args.gates.now) _ (omega arith),
+)
 
 pub overflow_add-place-in-loop-place : goal.overflow_add-place-in-loop-place
 unfolding net_of
@@ -57,11 +56,10 @@ pub line_at-line-requires : goal.line_at-line-requires
 line_at-line-requires c = sizes-lists c.args.net [] c.args.gates.now [] [] c.requires.sizes
 
 pub loop_fault-requires : goal.loop_fault-requires
-loop_fault-requires c =
-    (
-      limits-alone c.args.net [] c.args.gates.now c.requires,
-      rw c.line_at-line.ensures (has-line_at (alone c.args.net) (c.loop-place.place + 1)),
-    )
+loop_fault-requires c = (
+  limits-alone c.args.net [] c.args.gates.now c.requires,
+  rw c.line_at-line.ensures (has-line_at (alone c.args.net) (c.loop-place.place + 1)),
+)
 
 -- what the turn's call says of the line at the next place
 tested : (c : After-loop_fault)
@@ -88,13 +86,12 @@ pub loop-place-smaller : goal.loop-place-smaller
 loop-place-smaller c = omega arith
 
 pub loop-place-preserved : goal.loop-place-preserved
-loop-place-preserved c =
-    (
-      omega arith,
-      passed-next (net_of c.args.net [] c.args.gates.now) MemoryLoop loop_fault c.loop-place.place
-          c.loop-place.invariant.1
-          (tested (goal.at.loop-place-preserved c).After-loop_fault ∙ c.if-loop_fault.false),
-    )
+loop-place-preserved c = (
+  omega arith,
+  passed-next (net_of c.args.net [] c.args.gates.now) MemoryLoop loop_fault c.loop-place.place
+      c.loop-place.invariant.1
+      (tested (goal.at.loop-place-preserved c).After-loop_fault ∙ c.if-loop_fault.false),
+)
 
 pub returns : goal.returns
 unfolding net_of

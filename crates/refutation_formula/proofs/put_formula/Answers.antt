@@ -68,12 +68,11 @@ loop-next-smaller c = rw c.in-Then.is (omega (arith, (followed c).1))
 
 pub loop-next-preserved : goal.loop-next-preserved
 unfolding net_of
-loop-next-preserved c =
-    (
-      c.put_where_room-at.auto.1.0 ∙ c.loop-next.invariant.0,
-      one_more (so_far (goal.at.loop-next-preserved c).In-Then) c.put_where_room-at.new.out c.smaller-from.result c.put_where_room-at.result c.next_group-next.result c.smaller-from.ensures.0 c.smaller-from.ensures.1 c.put_where_room-at.ensures.put_where_room.0 (followed c).0,
-      omega (arith, rw c.in-Then.is at c.loop-next.invariant.2, c.put_where_room-at.ensures.put_where_room.1, (followed c).1),
-    )
+loop-next-preserved c = (
+  c.put_where_room-at.auto.1.0 ∙ c.loop-next.invariant.0,
+  one_more (so_far (goal.at.loop-next-preserved c).In-Then) c.put_where_room-at.new.out c.smaller-from.result c.put_where_room-at.result c.next_group-next.result c.smaller-from.ensures.0 c.smaller-from.ensures.1 c.put_where_room-at.ensures.put_where_room.0 (followed c).0,
+  omega (arith, rw c.in-Then.is at c.loop-next.invariant.2, c.put_where_room-at.ensures.put_where_room.1, (followed c).1),
+)
 
 pub returns : goal.returns
 returns c =

@@ -10,12 +10,11 @@ pub loop-i-smaller : goal.loop-i-smaller
 loop-i-smaller c = simp length-set (omega arith)
 
 pub loop-i-preserved : goal.loop-i-preserved
-loop-i-preserved c =
-    (
-      simp length-set (omega arith),
-      simp length-set (omega arith),
-      cleared_more c.loop-i.marks c.loop-i.i c.loop-i-test.true c.loop-i.invariant.2,
-    )
+loop-i-preserved c = (
+  simp length-set (omega arith),
+  simp length-set (omega arith),
+  cleared_more c.loop-i.marks c.loop-i.i c.loop-i-test.true c.loop-i.invariant.2,
+)
 
 pub returns : goal.returns
 returns c =

@@ -17,10 +17,13 @@ unfolding follows
 returns-then-mark_lemma c =
     let taken = c.if-mark_lemma.true in
     let all = sym c.mark_lemma.ensures.answer ∙ taken in
-    record { answer = rw all
+    record {
+      answer = rw all
           (c.propagate.ensures.answer
           ∙ ap (λ (k : ℕ). propagates (k / 2) c.args.known.now (false_in c.mark_lemma.new.marks.0 c.args.turn) c.args.hints.now) c.mark_lemma.auto.1.0
-          ∙ ap (λ (f : ℤ → Bool). propagates (length c.args.marks.now / 2) c.args.known.now f c.args.hints.now) (fun_ext (c.mark_lemma.ensures.marked.0 taken))); scratch = c.propagate.ensures.scratch }
+          ∙ ap (λ (f : ℤ → Bool). propagates (length c.args.marks.now / 2) c.args.known.now f c.args.hints.now) (fun_ext (c.mark_lemma.ensures.marked.0 taken)));
+      scratch = c.propagate.ensures.scratch;
+    }
 
 pub returns : goal.returns
 unfolding follows

@@ -23,14 +23,13 @@ read c =
     ∙ slot_read c.args.lemma.now c.loop-i.i c.slot-arg-1.given
 
 pub loop-i-init : goal.loop-i-init
-loop-i-init c =
-    (
-      omega arith,
-      refl,
-      λ s. omega (arith, c.requires s),
-      refl,
-      λ z. rw (none-false c.args.marks.now c.args.turn c.requires z),
-    )
+loop-i-init c = (
+  omega arith,
+  refl,
+  λ s. omega (arith, c.requires s),
+  refl,
+  λ z. rw (none-false c.args.marks.now c.args.turn c.requires z),
+)
 
 pub bounds-lemma-i : goal.bounds-lemma-i
 bounds-lemma-i c = omega arith

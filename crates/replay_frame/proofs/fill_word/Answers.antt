@@ -39,8 +39,11 @@ bounds-memory-address c =
 pub returns-then-reads_untouched : goal.returns-then-reads_untouched
 unfolding net_of address_of
 returns-then-reads_untouched c =
-    let first = c.evaluate.ensures in record { filled = filled-by c.requires.0 first c.if-net-eq0.false
-          (sym c.if-reads_untouched.true ∙ c.reads_untouched.ensures) (rw (c.address_of-address.ensures, c.word_said.ensures)); size = first.size }
+    let first = c.evaluate.ensures in record {
+      filled = filled-by c.requires.0 first c.if-net-eq0.false
+          (sym c.if-reads_untouched.true ∙ c.reads_untouched.ensures) (rw (c.address_of-address.ensures, c.word_said.ensures));
+      size = first.size;
+    }
 
 pub returns : goal.returns
 unfolding net_of address_of

@@ -31,12 +31,11 @@ pub loop-x-smaller : goal.loop-x-smaller
 loop-x-smaller c = omega arith
 
 pub loop-x-preserved : goal.loop-x-preserved
-loop-x-preserved c =
-    (
-      omega arith,
-      simp length-set c.loop-x.invariant.1,
-      set_next c.loop-x.table (omega arith) c.loop-x.invariant.1 c.loop-x.invariant.2 c.is_true.ensures.truth,
-    )
+loop-x-preserved c = (
+  omega arith,
+  simp length-set c.loop-x.invariant.1,
+  set_next c.loop-x.table (omega arith) c.loop-x.invariant.1 c.loop-x.invariant.2 c.is_true.ensures.truth,
+)
 
 pub returns : goal.returns
 returns c =

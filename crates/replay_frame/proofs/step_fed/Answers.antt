@@ -72,10 +72,13 @@ returns c =
     = filled-lists c.args.net c.args.latches.now c.args.gates.now c.fill_word-filled.ensures.filled in
     let held : HoldsState d (state_at d (begun_from d y (start_words d y (suc c.args.i))) (feed_of d y.value) c.args.i) _ _ _
     = filled-holds ok y c.args.i c.requires.begins fed c.requires.touched-are filled in
-    let values : HasBelow (last_wire d + 1) (replayed d y c.args.i) _ = stepped.frame-values _ (feed_of d y.value c.args.i) held fed in record { done = record {
+    let values : HasBelow (last_wire d + 1) (replayed d y c.args.i) _ = stepped.frame-values _ (feed_of d y.value c.args.i) held fed in record {
+      done = record {
         values-are = values;
         inputs-size = inputs.0;
         next-begins = rw add-one (stepped.next-held _ (feed_of d y.value c.args.i) held fed);
         next-touched = rw c.mark_touched.ensures (touched_after-is ok y c.args.i c.requires.touched-are values);
         behind = stepped.behind ∙ filled-behind ok y c.args.i c.requires.begins fed c.requires.touched-are filled;
-      }; filled = filled_is ok y c.args.i c.requires.begins fed c.requires.touched-are filled }
+      };
+      filled = filled_is ok y c.args.i c.requires.begins fed c.requires.touched-are filled;
+    }

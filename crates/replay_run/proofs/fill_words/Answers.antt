@@ -27,12 +27,11 @@ pub loop-x-smaller : goal.loop-x-smaller
 loop-x-smaller c = omega arith
 
 pub loop-x-preserved : goal.loop-x-preserved
-loop-x-preserved c =
-    (
-      omega arith,
-      simp length-set c.loop-x.invariant.1,
-      rw (c.loop-x.invariant.2, add-one) (delivered-next (λ _. c.args.word) c.args.memory.now c.loop-x.x (omega arith)),
-    )
+loop-x-preserved c = (
+  omega arith,
+  simp length-set c.loop-x.invariant.1,
+  rw (c.loop-x.invariant.2, add-one) (delivered-next (λ _. c.args.word) c.args.memory.now c.loop-x.x (omega arith)),
+)
 
 pub shape_of-memory : goal.shape_of-memory
 shape_of-memory c =

@@ -10,9 +10,12 @@ pub returns-then-line-eq10 : goal.returns-then-line-eq10
 unfolding field_in
 returns-then-line-eq10 c =
     let line = c.args.line.now in
-    record { line = c.line_with.ensures
+    record {
+      line = c.line_with.ensures
           ∙ rw (c.kind_of-kind.ensures, c.read_field-first.ensures, c.read_field-second.ensures, c.read_field-third.ensures)
-          (sym (line_of-fields line (omega (arith, (goal.at.returns-then-line-eq10 c).Then-line-eq32)) (omega (arith, (goal.at.returns-then-line-eq10 c).Then-line-eq10)))); written = lines-as-written }
+          (sym (line_of-fields line (omega (arith, (goal.at.returns-then-line-eq10 c).Then-line-eq32)) (omega (arith, (goal.at.returns-then-line-eq10 c).Then-line-eq10))));
+      written = lines-as-written;
+    }
 
 pub returns-else-line-eq10 : goal.returns-else-line-eq10
 returns-else-line-eq10 c =

@@ -45,14 +45,13 @@ returns-then-second_use c =
     (omega arith))
 
 pub loop-place-preserved : goal.loop-place-preserved
-loop-place-preserved c =
-    (
-      omega arith,
-      passed-next (net_of c.args.net c.args.latches.now c.args.gates.now) SecondPort second_use
-          c.loop-place.place
-          c.loop-place.invariant.1
-          (tested (goal.at.loop-place-preserved c).After-second_use ∙ c.if-second_use.false),
-    )
+loop-place-preserved c = (
+  omega arith,
+  passed-next (net_of c.args.net c.args.latches.now c.args.gates.now) SecondPort second_use
+      c.loop-place.place
+      c.loop-place.invariant.1
+      (tested (goal.at.loop-place-preserved c).After-second_use ∙ c.if-second_use.false),
+)
 
 pub returns : goal.returns
 unfolding net_of

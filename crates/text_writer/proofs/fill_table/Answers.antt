@@ -44,13 +44,12 @@ loop-x-smaller c = omega arith
 
 pub loop-x-preserved : goal.loop-x-preserved
 unfolding table_below
-loop-x-preserved c =
-    (
-      omega arith,
-      same_len_mid c.loop-x.at (length c.loop-x.table - c.loop-x.at) c.loop-x.table c.put_four_digits-at.new.out c.put_four_digits-at.auto.out ∙ c.loop-x.invariant.1,
-      rw add-one
-          (wrote_then (table_below c.loop-x.x) (four_digits c.loop-x.x) c.args.table.now c.loop-x.table c.put_four_digits-at.new.out c.loop-x.at c.put_four_digits-at.result c.loop-x.invariant.2 c.put_four_digits-at.ensures),
-    )
+loop-x-preserved c = (
+  omega arith,
+  same_len_mid c.loop-x.at (length c.loop-x.table - c.loop-x.at) c.loop-x.table c.put_four_digits-at.new.out c.put_four_digits-at.auto.out ∙ c.loop-x.invariant.1,
+  rw add-one
+      (wrote_then (table_below c.loop-x.x) (four_digits c.loop-x.x) c.args.table.now c.loop-x.table c.put_four_digits-at.new.out c.loop-x.at c.put_four_digits-at.result c.loop-x.invariant.2 c.put_four_digits-at.ensures),
+)
 
 pub returns : goal.returns
 returns c =
