@@ -7,6 +7,7 @@ ghost use Rattle.netlist.specs.NetOf.{net_of};
 ghost use Rattle.dimacs.specs.Text.{refusal_text};
 ghost use Rattle.program_input.specs.Input.{InputTaken};
 ghost use Rattle.program_output.specs.Printed.{formula_header, frames_text};
+ghost use Rattle.frames.specs.Written.{Written};
 
 use group_order::Next;
 use netlist::UnpackedList;
@@ -25,7 +26,8 @@ fn write_next<W: Write, E: Write>(
     text: &[u8],
 )
     requires { (text.now ≡ take (length text.now) (drop sent.old (frames_text input.now))) × (sent.old + length text.now < 2 ^ 64) }
-    ensures { sent.new ≡ sent.old + length text.now }
+    ensures sent { sent.new ≡ sent.old + length text.now }
+    ensures written { Written failed.old failed.new (W.contents output.old) (W.contents output.new) text.now }
 {
     *sent += text.len();
     if *failed {
@@ -50,7 +52,8 @@ fn print_refusal<W: Write, E: Write>(
     place: u32,
 )
     requires { (frames_text input.now ≡ refusal_text number place) × (sent.old ≡ 0) }
-    ensures { sent.new ≡ length (frames_text input.now) }
+    ensures sent { sent.new ≡ length (frames_text input.now) }
+    ensures written { Written failed.old failed.new (W.contents output.old) (W.contents output.new) (frames_text input.now) }
 {
     let mut text = [0; 28];
     let bytes = dimacs::write_refusal(&mut text, number, place);
@@ -69,8 +72,9 @@ fn print_header<W: Write, E: Write>(
     gates: &UnpackedList,
 )
     requires { InputTaken input.now taken latches.now gates.now × (sent.old ≡ 0) }
-    ensures { (sent.new ≡ length (formula_header (net_of taken.net latches.now gates.now) taken.depth))
+    ensures sent { (sent.new ≡ length (formula_header (net_of taken.net latches.now gates.now) taken.depth))
         × (sent.new ≤ 28) }
+    ensures written { Written failed.old failed.new (W.contents output.old) (W.contents output.new) (take sent.new (frames_text input.now)) }
 {
     let mut text = [0; 28];
     let bytes = program_output::print_header(&mut text, taken.net, latches, gates, taken.depth);
@@ -90,7 +94,8 @@ fn print_clauses<W: Write, E: Write>(
 )
     requires { InputTaken input.now taken latches.now gates.now
         × (sent.old ≡ length (formula_header (net_of taken.net latches.now gates.now) taken.depth)) × (sent.old ≤ 28) }
-    ensures { sent.new ≡ length (frames_text input.now) }
+    ensures sent { sent.new ≡ length (frames_text input.now) }
+    ensures written { Written failed.old failed.new (W.contents output.old) (W.contents output.new) (drop sent.old (frames_text input.now)) }
 {
     let mut text = [0; 131072];
     let mut numbers = [0; 5992];
@@ -128,7 +133,8 @@ fn print_formula<W: Write, E: Write>(
     gates: &UnpackedList,
 )
     requires { InputTaken input.now taken latches.now gates.now × (sent.old ≡ 0) }
-    ensures { sent.new ≡ length (frames_text input.now) }
+    ensures sent { sent.new ≡ length (frames_text input.now) }
+    ensures written { Written failed.old failed.new (W.contents output.old) (W.contents output.new) (frames_text input.now) }
 {
     print_header(output, errors, input, sent, failed, taken, latches, gates);
     print_clauses(output, errors, input, sent, failed, taken, latches, gates);
@@ -143,7 +149,8 @@ fn print_answer<W: Write, E: Write>(
     failed: &mut bool,
 )
     requires { (sent.old ≡ 0) × (failed.old ≡ false) }
-    ensures { sent.new ≡ length (frames_text input.now) }
+    ensures sent { sent.new ≡ length (frames_text input.now) }
+    ensures written { Written failed.old failed.new (W.contents output.old) (W.contents output.new) (frames_text input.now) }
 {
     let mut latches = sheet_tests::no_codes();
     let mut gates = sheet_tests::no_codes();

@@ -3,20 +3,24 @@
 // below; here are only arguments, input and output.
 #![tactic(auto)]
 
-ghost use Rattle.std.specs.Prelude.{◌≡◌, length};
+ghost use Rattle.std.specs.Prelude.{◌≡◌, true, length};
+ghost use Rattle.std.specs.Io.KnownBytes.{Appends};
+ghost use Rattle.program_import.specs.Printed.{import_output};
 
 use decimal::Number;
 use std::env::{Env, FillError};
 use std::io::Write;
 
-// Writes text to standard output. Where that fails, says so on standard error.
-fn write_text<W: Write, E: Write>(output: &mut W, errors: &mut E, text: &[u8]) {
+// Writes text to standard output. Where that fails, says so on standard error. Answers whether all is written.
+fn write_text<W: Write, E: Write>(output: &mut W, errors: &mut E, text: &[u8]) -> bool
+    ensures { result ≡ true → Appends (W.contents output.old) (W.contents output.new) text.now }
+{
     streams::write_or_say(
         output,
         errors,
         text,
         b"import_aag: writing failed, the output is not whole\n",
-    );
+    )
 }
 
 fn print_usage<E: Write>(errors: &mut E) {
@@ -60,7 +64,7 @@ fn no_sheet() -> [u8; 20064]
     [0; 20064]
 }
 
-// Prints what is made of the text read. Where that is nothing, says so on standard error.
+// Prints what is made of the text read, and answers whether all of it is written. Where that is nothing, says so on standard error.
 fn print_import<W: Write, E: Write>(
     output: &mut W,
     errors: &mut E,
@@ -70,7 +74,10 @@ fn print_import<W: Write, E: Write>(
     word: u32,
     unknown: u32,
     second_port: u32,
-) {
+) -> bool
+    ensures { result ≡ true → Appends (W.contents output.old) (W.contents output.new)
+        (import_output text.now m n word unknown second_port) }
+{
     let mut sheet = no_sheet();
     let bytes = program_import::write_output(&mut sheet, text, m, n, word, unknown, second_port);
     if bytes == 0 {
@@ -78,9 +85,9 @@ fn print_import<W: Write, E: Write>(
             errors,
             b"import_aag: not all lines of the text are within its first 4194304 bytes\n",
         );
-        return;
+        return true;
     }
-    write_text(output, errors, &sheet[..bytes]);
+    write_text(output, errors, &sheet[..bytes])
 }
 
 // Imports the text on standard input.

@@ -4,6 +4,7 @@
 #![tactic(auto)]
 
 ghost use Rattle.std.specs.Prelude.{ℕ, IfNone, ◌+◌, ◌^◌, ◌≤◌, ◌<◌, ◌≡◌, true, false, List, [], length};
+ghost use Rattle.std.specs.Io.KnownBytes.{Appends};
 ghost use Rattle.dimacs.specs.Text.{refusal_text};
 ghost use Rattle.answer_signs.specs.Signs.{SignsOf};
 ghost use Rattle.answer_scan.specs.AnswerRead.{AnswerRead};
@@ -22,7 +23,8 @@ use std::io::{Read, Write};
 use std::rt::Files;
 
 // Writes to standard output all that is printed for an input and its answer, in one piece, once: nothing else writes there. The input, how many bytes
-// of the answer were read and whether there may be more are lent only for what is asked of the text. Where writing fails, says so on standard error.
+// of the answer were read and whether there may be more are lent only for what is asked of the text. Where writing fails, says so on
+// standard error. Answers whether all is written.
 fn write_text<W: Write, E: Write>(
     output: &mut W,
     errors: &mut E,
@@ -31,9 +33,10 @@ fn write_text<W: Write, E: Write>(
     more: &bool,
     printed: &mut bool,
     text: &[u8],
-)
+) -> bool
     requires { SomeText got.now (PrintedFor input.now more.now text.now) × (printed.old ≡ false) }
-    ensures { printed.new ≡ true }
+    ensures printed { printed.new ≡ true }
+    ensures written { result ≡ true → Appends (W.contents output.old) (W.contents output.new) text.now }
 {
     *printed = true;
     streams::write_or_say(
@@ -41,7 +44,7 @@ fn write_text<W: Write, E: Write>(
         errors,
         text,
         b"replay: writing failed, the output is not whole\n",
-    );
+    )
 }
 
 // Prints the refusal of an input, whatever the answer.
@@ -54,13 +57,14 @@ fn print_refusal<W: Write, E: Write>(
     printed: &mut bool,
     number: u32,
     place: u32,
-)
+) -> bool
     requires { ((answer : List ℕ) → replay_text input.now answer ≡ refusal_text number place) × (got.now ≡ 0) × (printed.old ≡ false) }
-    ensures { printed.new ≡ true }
+    ensures printed { printed.new ≡ true }
+    ensures written { result ≡ true → Appends (W.contents output.old) (W.contents output.new) (refusal_text number place) }
 {
     let mut text = [0; 28];
     let bytes = dimacs::write_refusal(&mut text, number, place);
-    write_text(output, errors, input, got, more, printed, &text[..bytes]);
+    write_text(output, errors, input, got, more, printed, &text[..bytes])
 }
 
 // Opens the file `answer`. One that can't be opened is empty.
@@ -151,10 +155,11 @@ fn print_replay<W: Write, E: Write>(
     gates: &UnpackedList,
     kind: AnswerKind,
     signs: &SignTable,
-)
+) -> bool
     requires { InputTaken input.now taken latches.now gates.now
         × SomeText got.now (λ text. AnswerRead text signs.now kind) × (more.now ≡ false) × (printed.old ≡ false) }
-    ensures { printed.new ≡ true }
+    ensures printed { printed.new ≡ true }
+    ensures written { result ≡ true → SomeText got.now (λ answer. Appends (W.contents output.old) (W.contents output.new) (replay_text input.now answer)) }
 {
     let mut text = no_output();
     let bytes = program_replay::write_replay(
@@ -166,7 +171,7 @@ fn print_replay<W: Write, E: Write>(
         kind,
         signs,
     );
-    write_text(output, errors, input, got, more, printed, &text[..bytes]);
+    write_text(output, errors, input, got, more, printed, &text[..bytes])
 }
 
 // Reads the answer, and replays it.
@@ -181,15 +186,16 @@ fn replay_file<R: Files, W: Write, E: Write>(
     taken: Input,
     latches: &UnpackedList,
     gates: &UnpackedList,
-)
+) -> bool
     requires { InputTaken input.now taken latches.now gates.now × (got.old ≡ 0) × (printed.old ≡ false) }
-    ensures { printed.new ≡ true }
+    ensures printed { printed.new ≡ true }
+    ensures written { result ≡ true → SomeText got.new (λ answer. Appends (W.contents output.old) (W.contents output.new) (replay_text input.now answer)) }
 {
     let mut signs = answer_signs::no_signs();
     let kind = read_answer(rt, got, more, &mut signs);
     print_replay(
         output, errors, input, got, more, printed, taken, latches, gates, kind, &signs,
-    );
+    )
 }
 
 // Prints what is due for an input and its answer, of which nothing was read.
@@ -201,9 +207,10 @@ fn print_answer<R: Files, W: Write, E: Write>(
     got: &mut usize,
     more: &mut bool,
     printed: &mut bool,
-)
+) -> bool
     requires { (got.old ≡ 0) × (printed.old ≡ false) }
-    ensures { printed.new ≡ true }
+    ensures printed { printed.new ≡ true }
+    ensures written { result ≡ true → SomeText got.new (λ answer. Appends (W.contents output.old) (W.contents output.new) (replay_text input.now answer)) }
 {
     let mut latches = sheet_tests::no_codes();
     let mut gates = sheet_tests::no_codes();
@@ -218,11 +225,11 @@ fn print_answer<R: Files, W: Write, E: Write>(
             printed,
             taken.number,
             taken.place,
-        );
+        )
     } else {
         replay_file(
             rt, output, errors, input, got, more, printed, taken, &latches, &gates,
-        );
+        )
     }
 }
 
