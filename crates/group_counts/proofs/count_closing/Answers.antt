@@ -15,7 +15,7 @@ count_group-first-requires c =
 pub returns-then-net-eq0 : goal.returns-then-net-eq0
 returns-then-net-eq0 c =
     let first = c.count_group-first.ensures in
-    record { value = (count-first _ _ _ (Closing c.args.i) _ c.if-net-eq0.true first.0.0, omega (arith, first.0.1)); scratch = search rules }
+    record { value = (count-first _ _ _ (Closing c.args.i) _ c.if-net-eq0.true first.value.0, omega (arith, first.value.1)); scratch = search rules }
 
 pub count_group-requires : goal.count_group-requires
 count_group-requires c =
@@ -26,4 +26,4 @@ pub returns : goal.returns
 returns c =
     let first = c.count_group-first.ensures in
     let second = c.count_group.ensures in
-    record { value = (count-both _ _ _ (Closing c.args.i) _ _ c.if-net-eq0.false first.0.0 second.0.0, omega (arith, first.0.1, second.0.1)); scratch = search rules }
+    record { value = (count-both _ _ _ (Closing c.args.i) _ _ c.if-net-eq0.false first.value.0 second.value.0, omega (arith, first.value.1, second.value.1)); scratch = search rules }

@@ -35,9 +35,13 @@ slice_bounds-count_ends-end-2 c = sym (length-take-le _ _ (within (goal.at.slice
 -- and so are the clauses in them
 most : (c : After-count_ends) → c.count_ends.result ≤ 5992
 most c =
-    let group = within c⟨After-put_group⟩ in
-    let e : length (take c.put_group-count.result c.put_group-count.new.out) ≡ c.put_group-count.result = length-take-le _ _ group.0 in
-    omega (arith, c.count_ends.ensures.1, group.1)
+    let p = c.requires in
+    let w = c.put_group-count.ensures in
+    let most = numbers-most _ _ _ p.0 p.1 p.2 in
+    let fits : c.put_group-count.result ≤ length c.put_group-count.new.out = omega (arith, w.1, p.3, wrote-length w.0 (omega (arith, w.0.counted, w.1, p.3))) in
+    let few : c.put_group-count.result ≤ 5992 = omega (arith, w.1) in
+    let e : length (take c.put_group-count.result c.put_group-count.new.out) ≡ c.put_group-count.result = length-take-le _ _ fits in
+    omega (arith, c.count_ends.ensures.1, few)
 
 pub overflow_cast-result : goal.overflow_cast-result
 overflow_cast-result c = omega (arith, most c)

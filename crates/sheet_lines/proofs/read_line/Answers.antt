@@ -13,7 +13,7 @@ returns-then-line-eq10 c =
     record {
       line = c.line_with.ensures
           ∙ rw (c.kind_of-kind.ensures, c.read_field-first.ensures, c.read_field-second.ensures, c.read_field-third.ensures)
-          (sym (line_of-fields line (omega (arith, (goal.at.returns-then-line-eq10 c).Then-line-eq32)) (omega (arith, (goal.at.returns-then-line-eq10 c).Then-line-eq10))));
+          (sym (line_of-fields line (omega arith) (omega arith)));
       written = lines-as-written;
     }
 
