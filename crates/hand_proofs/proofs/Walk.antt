@@ -14,8 +14,8 @@ use mathlib.Core.Path.{◌≡◌, refl, sym, ap, subst}
 use mathlib.Core.List.{List, [], ◌∷◌}
 use lib.ListN.{length, get_or}
 use seplogic.Ra.Ura.{Ura}
-use seplogic.Ra.TreeShare.{full_share}
-use mir.Syntax.{Lifetime, Ty, Name, Place, Step as PlaceStep, Opd as Operand, Body, Fn, ty_unit, place, copy, seq, call}
+use base.Fraction.{full_share}
+use mir.Syntax.{Lifetime, Ty, Callee, Place, Step as PlaceStep, Opd as Operand, Body, Fn, ty_unit, place, copy, seq, call}
 use mir.Val.{Val, vptr}
 use base.Logic.{SProp, ent, sep, emp, id⊢, via, mono_l, mono_r, comm∗, mono∗, emp∗}
 use base.Fml.{Lft, GName, Share, ftrue, fat, froom, fdies, flft}
@@ -60,7 +60,7 @@ both 𝓤 p q = via 𝓤 _ (emp∗ 𝓤 (emp 𝓤)) (mono∗ 𝓤 p q)
 
 -- a call of a function whose `ensures` is c's: `holds` shows its `requires`
 module _ {M : Type 1} {𝓤 : Ura M} {𝓛 : Logic 𝓤} {K : Type 0} {Γ : List (Item 𝓤)} {E : Env 𝓤 𝓛.H}
-    {C : Calls 𝓤 𝓛.H} {Λ : Loops 𝓤 𝓛.H} {q : Post 𝓤 𝓛.H} {f : Name} {xs : List Operand} {d : Place} {rest : Body} where
+    {C : Calls 𝓤 𝓛.H} {Λ : Loops 𝓤 𝓛.H} {q : Post 𝓤 𝓛.H} {f : Callee} {xs : List Operand} {d : Place} {rest : Body} where
   open 𝓛 use {H}
 
   pub calls-told : K → FmC 𝓤 H 𝓛.laws C → (T : Ended) (c : Clauses 𝓤 T)

@@ -30,7 +30,7 @@ loop-base-smaller c = omega (arith, c.fault_in_block-found.ensures.judged.1)
 pub loop-base-preserved : goal.loop-base-preserved
 loop-base-preserved c =
     let found = c.fault_in_block-found.ensures in
-    (omega (arith, found.0.1), rw c.smaller-first.ensures (judged-on c.loop-base.invariant.0 c.loop-base.invariant.1 found.0.0), found.1 ∙ c.loop-base.invariant.2)
+    (omega (arith, found.judged.1), rw c.smaller-first.ensures (judged-on c.loop-base.invariant.0 c.loop-base.invariant.1 found.judged.0), found.size ∙ c.loop-base.invariant.2)
 
 pub returns : goal.returns
 returns c = judged-to 4294967296 (omega arith) c.loop-base.invariant.1

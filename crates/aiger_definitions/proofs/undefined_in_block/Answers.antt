@@ -17,8 +17,8 @@ pass-others-requires c =
       c.requires.1,
       c.requires.2,
       c.requires.3,
-      omega (arith, first.1.1, c.clear.ensures.0, c.requires.4),
-      first.1.0,
+      omega (arith, first.all_marked.1, c.clear.ensures.0, c.requires.4),
+      first.all_marked.0,
     )
 
 pub returns : goal.returns
@@ -26,8 +26,8 @@ returns c =
     let operands = c.pass-operands.ensures in
     let others = c.pass-others.ensures in record {
       judged = (
-        rw (c.smaller.ensures, c.smaller-2.ensures) (judged-either operands.0.0 others.0.0),
-        rw c.smaller-2.ensures (min-above operands.0.1 others.0.1),
+        rw (c.smaller.ensures, c.smaller-2.ensures) (judged-either operands.judged.0 others.judged.0),
+        rw c.smaller-2.ensures (min-above operands.judged.1 others.judged.1),
       );
-      size = others.1.1 ∙ operands.1.1 ∙ c.clear.ensures.0;
+      size = others.all_marked.1 ∙ operands.all_marked.1 ∙ c.clear.ensures.0;
     }

@@ -75,4 +75,4 @@ overflow_add-result c = omega arith
 pub returns : goal.returns
 returns c =
     let e : c.loop-i.i ≡ c.difference_length-last.result - 1 = omega arith in
-    rw e c.loop-i (going-ends c.args.x c.args.out.now c.loop-i.out c.loop-i.rest c.loop-i.i (omega arith) (omega arith) c.loop-i.invariant.4)
+    rw e at (going-ends c.args.x c.args.out.now c.loop-i.out c.loop-i.rest c.loop-i.i (omega arith) (omega arith) c.loop-i.invariant.4)

@@ -23,7 +23,7 @@ pub returns-in-Refused : goal.returns-in-Refused
 unfolding print_reply export_verdict export_sent export_leaves with_count contents_after ◌then◌
 returns-in-Refused c =
     let v = sym c.test_export.ensures ∙ c.in-Refused.is in
-    (rw v, (rw v, exported))
+    record { answer = rw v; borrowed = rw v; exported = exported }
 
 -- the record passes its tests
 passed : (c : In_default) → test_export (net_of c.args.net c.args.latches.now c.args.gates.now) c.args.latch_count c.args.gate_count ≡ Passed
@@ -42,7 +42,7 @@ returns-then-out-count c =
     let v = passed (goal.at.returns-then-out-count c).In_default in
     let w = c.put_file-count.ensures.0 in
     let short = room-short (length (export_text (net_of c.args.net c.args.latches.now c.args.gates.now))) (length c.args.out.now) (omega (arith, w.counted, c.if-out-count.true)) in
-    (rw (v, short), (rw (v, short), exported))
+    record { answer = rw (v, short); borrowed = rw (v, short); exported = exported }
 
 -- the file is within what was written aside
 within : (c : After-put_file-count) → c.put_file-count.result ≤ length c.put_file-count.new.out
@@ -66,4 +66,4 @@ returns c =
     let w = c.put_file-count.ensures.0 in
     let x = rw (wrote-front w) at c.write_word.ensures in
     let enough = room-enough (length (export_text (net_of c.args.net c.args.latches.now c.args.gates.now))) (length c.args.out.now) (omega (arith, w.counted, c.if-out-count.false)) in
-    (rw (v, enough, x.counted), (rw (v, enough) x.leaves, exported))
+    record { answer = rw (v, enough, x.counted); borrowed = rw (v, enough) x.leaves; exported = exported }

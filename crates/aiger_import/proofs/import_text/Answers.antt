@@ -26,33 +26,34 @@ sizes-are : (c : After-text_sizes-sizes) →
     c.text_sizes-sizes.result ≡ record_of (text_sizes c.read_header-header.result.counts c.args.m c.args.n (imported_word c.args.word c.args.unknown) c.args.unknown c.args.second_port)
 sizes-are c = rw c.given_word-given.ensures at c.text_sizes-sizes.ensures
 
--- its c⟨After-text_sizes⟩, tested and passed
+-- its sizes, tested and passed
 sizes-judged : (c : After-test_sizes-sized) →
     test_lines (aag_net c.args.text.now c.args.m c.args.n (imported_word c.args.word c.args.unknown) c.args.unknown c.args.second_port) Size size_fault ≡ c.test_sizes-sized.result
 sizes-judged c =
-    let c.args = c.args in
-    sizes-tested c.args.text.now c.args.m c.args.n (imported_word c.args.word c.args.unknown) c.args.unknown c.args.second_port c.read_header-header.result.counts c.read_header-header.ensures.counts-are c.text_sizes-sizes.result (sizes-are c⟨After-text_sizes⟩)
+    sizes-tested c.args.text.now c.args.m c.args.n (imported_word c.args.word c.args.unknown) c.args.unknown c.args.second_port c.read_header-header.result.counts c.read_header-header.ensures.counts-are c.text_sizes-sizes.result (rw c.given_word-given.ensures at c.text_sizes-sizes.ensures)
     c.test_sizes-sized.ensures
 
 sizes-passed : (c : In_default-sized) →
     test_lines (aag_net c.args.text.now c.args.m c.args.n (imported_word c.args.word c.args.unknown) c.args.unknown c.args.second_port) Size size_fault ≡ Passed
-sizes-passed c = sizes-judged c⟨After-test_sizes⟩ ∙ c.in_default-sized.is
+sizes-passed c =
+    sizes-tested c.args.text.now c.args.m c.args.n (imported_word c.args.word c.args.unknown) c.args.unknown c.args.second_port c.read_header-header.result.counts c.read_header-header.ensures.counts-are c.text_sizes-sizes.result (rw c.given_word-given.ensures at c.text_sizes-sizes.ensures)
+    c.test_sizes-sized.ensures ∙ c.in_default-sized.is
 
 -- the record and the lists hold its netlist
-net-held : (c : After-fill-net) →
-    Holds c.fill-net.result c.fill-net.new.header.1.1.0 c.fill-net.new.header.1.1.1.0 (aag_net c.args.text.now c.args.m c.args.n (imported_word c.args.word c.args.unknown) c.args.unknown c.args.second_port)
-net-held c =
-    let c.args = c.args in
-    held c.args.text.now c.args.m c.args.n (imported_word c.args.word c.args.unknown) c.args.unknown c.args.second_port c.read_header-header.result.counts c.read_header-header.ensures.counts-are c.text_sizes-sizes.result (sizes-are c⟨After-text_sizes⟩)
-    (text-passed c⟨After-text_sizes-arg⟩) (sizes-passed c⟨After-enum_told2⟩) _ _ _ c.fill-net.ensures
+net-held : (c : After-fill-net) → text_verdict c.args.text.now c.args.m c.args.n c.args.second_port ≡ Passed
+    → test_lines (aag_net c.args.text.now c.args.m c.args.n (imported_word c.args.word c.args.unknown) c.args.unknown c.args.second_port) Size size_fault ≡ Passed
+    → Holds c.fill-net.result c.fill-net.new.latches c.fill-net.new.gates (aag_net c.args.text.now c.args.m c.args.n (imported_word c.args.word c.args.unknown) c.args.unknown c.args.second_port)
+net-held c text sized =
+    held c.args.text.now c.args.m c.args.n (imported_word c.args.word c.args.unknown) c.args.unknown c.args.second_port c.read_header-header.result.counts c.read_header-header.ensures.counts-are c.text_sizes-sizes.result (rw c.given_word-given.ensures at c.text_sizes-sizes.ensures)
+    text sized _ _ _ c.fill-net.ensures
 
 -- and its port is tested
-port-judged : (c : After-test_ports-port) →
-    test_ports (aag_net c.args.text.now c.args.m c.args.n (imported_word c.args.word c.args.unknown) c.args.unknown c.args.second_port) ≡ c.test_ports-port.result
-port-judged c =
-    let c.args = c.args in
-    port-tested c.args.text.now c.args.m c.args.n (imported_word c.args.word c.args.unknown) c.args.unknown c.args.second_port c.read_header-header.result.counts c.read_header-header.ensures.counts-are c.text_sizes-sizes.result (sizes-are c⟨After-text_sizes-arg⟩)
-    (text-passed c⟨After-enum_told⟩) (sizes-passed c⟨At-match2-keys2⟩) _ _ _ c.fill-net.ensures c.test_ports-port.ensures
+port-judged : (c : After-test_ports-port) → text_verdict c.args.text.now c.args.m c.args.n c.args.second_port ≡ Passed
+    → test_lines (aag_net c.args.text.now c.args.m c.args.n (imported_word c.args.word c.args.unknown) c.args.unknown c.args.second_port) Size size_fault ≡ Passed
+    → test_ports (aag_net c.args.text.now c.args.m c.args.n (imported_word c.args.word c.args.unknown) c.args.unknown c.args.second_port) ≡ c.test_ports-port.result
+port-judged c text sized =
+    port-tested c.args.text.now c.args.m c.args.n (imported_word c.args.word c.args.unknown) c.args.unknown c.args.second_port c.read_header-header.result.counts c.read_header-header.ensures.counts-are c.text_sizes-sizes.result (rw c.given_word-given.ensures at c.text_sizes-sizes.ensures)
+    text sized _ _ _ c.fill-net.ensures c.test_ports-port.ensures
 
 pub returns-in-Refused : goal.returns-in-Refused
 returns-in-Refused c =
@@ -70,37 +71,37 @@ returns-in-Refused-sized c =
     rw c.refused-in-Refused-sized.ensures
     (outcome-refused _ _ (aag_net c.args.text.now c.args.m c.args.n (imported_word c.args.word c.args.unknown) c.args.unknown c.args.second_port)
     (sizes-refused c.args.text.now c.args.m c.args.n (imported_word c.args.word c.args.unknown) c.args.unknown c.args.second_port c.args.latch_room c.args.gate_room
-    (text-passed (goal.at.returns-in-Refused-sized c).After-text_sizes-arg-1) (sizes-judged (goal.at.returns-in-Refused-sized c).After-test_sizes-sized ∙ c.in-Refused-sized.is)))
+    (text-passed (goal.at.returns-in-Refused-sized c).In_default) (sizes-judged (goal.at.returns-in-Refused-sized c).After-test_sizes-sized ∙ c.in-Refused-sized.is)))
 
 pub fill-net-requires : goal.fill-net-requires
 fill-net-requires c =
     (
       c.read_header-header.ensures,
       ready c.args.text.now c.args.m c.args.n (imported_word c.args.word c.args.unknown) c.args.unknown c.args.second_port c.read_header-header.result.counts c.read_header-header.ensures.counts-are c.text_sizes-sizes.result (sizes-are (goal.at.fill-net-requires c).After-text_sizes-sizes)
-          (text-passed (goal.at.fill-net-requires c).After-text_sizes-arg-1) (sizes-passed (goal.at.fill-net-requires c).In_default-sized),
+          (text-passed (goal.at.fill-net-requires c).In_default) (sizes-passed (goal.at.fill-net-requires c).In_default-sized),
       c.requires.0,
       c.requires.1,
     )
 
 pub test_ports-port-requires : goal.test_ports-port-requires
 test_ports-port-requires c =
-    limits c.args.text.now c.args.m c.args.n (imported_word c.args.word c.args.unknown) c.args.unknown c.args.second_port c.read_header-header.result.counts c.read_header-header.ensures.counts-are c.text_sizes-sizes.result (sizes-are (goal.at.test_ports-port-requires c).After-text_sizes-arg-1)
-    (text-passed (goal.at.test_ports-port-requires c).In_default) (sizes-passed (goal.at.test_ports-port-requires c).In_default-sized-1) _ _ _ c.fill-net.ensures
+    limits c.args.text.now c.args.m c.args.n (imported_word c.args.word c.args.unknown) c.args.unknown c.args.second_port c.read_header-header.result.counts c.read_header-header.ensures.counts-are c.text_sizes-sizes.result (sizes-are (goal.at.test_ports-port-requires c).After-text_sizes-sizes)
+    (text-passed (goal.at.test_ports-port-requires c).In_default) (sizes-passed (goal.at.test_ports-port-requires c).In_default-sized) _ _ _ c.fill-net.ensures
 
 pub returns-in-Refused-port : goal.returns-in-Refused-port
 returns-in-Refused-port c =
     rw c.refused-in-Refused-port.ensures
     (outcome-refused _ _ (aag_net c.args.text.now c.args.m c.args.n (imported_word c.args.word c.args.unknown) c.args.unknown c.args.second_port)
     (port-refused c.args.text.now c.args.m c.args.n (imported_word c.args.word c.args.unknown) c.args.unknown c.args.second_port c.args.latch_room c.args.gate_room
-    (text-passed (goal.at.returns-in-Refused-port c).In_default) (sizes-passed (goal.at.returns-in-Refused-port c).In_default-sized-1) (port-judged (goal.at.returns-in-Refused-port c).After-test_ports-port ∙ c.in-Refused-port.is)))
+    (text-passed (goal.at.returns-in-Refused-port c).In_default) (sizes-passed (goal.at.returns-in-Refused-port c).In_default-sized) (port-judged (goal.at.returns-in-Refused-port c).After-test_ports-port (text-passed (goal.at.returns-in-Refused-port c).In_default) (sizes-passed (goal.at.returns-in-Refused-port c).In_default-sized) ∙ c.in-Refused-port.is)))
 
 pub returns-then-latch_room-net : goal.returns-then-latch_room-net
 returns-then-latch_room-net c =
     let text = text-passed (goal.at.returns-then-latch_room-net c).In_default in
-    let sized = sizes-passed (goal.at.returns-then-latch_room-net c).In_default-sized-1 in
-    let port = port-judged (goal.at.returns-then-latch_room-net c).After-test_ports-port ∙ c.in_default-port.is in
+    let sized = sizes-passed (goal.at.returns-then-latch_room-net c).In_default-sized in
+    let port = port-judged (goal.at.returns-then-latch_room-net c).After-test_ports-port text sized ∙ c.in_default-port.is in
     let short =
-    short-held c.args.text.now c.args.m c.args.n (imported_word c.args.word c.args.unknown) c.args.unknown c.args.second_port c.read_header-header.result.counts c.read_header-header.ensures.counts-are c.text_sizes-sizes.result (sizes-are (goal.at.returns-then-latch_room-net c).After-text_sizes-arg-1) text sized
+    short-held c.args.text.now c.args.m c.args.n (imported_word c.args.word c.args.unknown) c.args.unknown c.args.second_port c.read_header-header.result.counts c.read_header-header.ensures.counts-are c.text_sizes-sizes.result (sizes-are (goal.at.returns-then-latch_room-net c).After-text_sizes-sizes) text sized
     _ _ _ c.fill-net.ensures c.args.latch_room c.args.gate_room in
     rw c.refused-then-latch_room-net.ensures
     (outcome-refused _ _ (aag_net c.args.text.now c.args.m c.args.n (imported_word c.args.word c.args.unknown) c.args.unknown c.args.second_port)
@@ -109,10 +110,10 @@ returns-then-latch_room-net c =
 pub returns : goal.returns
 returns c =
     let text = text-passed (goal.at.returns c).In_default in
-    let sized = sizes-passed (goal.at.returns c).In_default-sized-1 in
-    let port = port-judged (goal.at.returns c).After-test_ports-port ∙ c.in_default-port.is in
+    let sized = sizes-passed (goal.at.returns c).In_default-sized in
+    let port = port-judged (goal.at.returns c).After-test_ports-port text sized ∙ c.in_default-port.is in
     let short =
-    short-held c.args.text.now c.args.m c.args.n (imported_word c.args.word c.args.unknown) c.args.unknown c.args.second_port c.read_header-header.result.counts c.read_header-header.ensures.counts-are c.text_sizes-sizes.result (sizes-are (goal.at.returns c).After-text_sizes-arg-1) text sized
+    short-held c.args.text.now c.args.m c.args.n (imported_word c.args.word c.args.unknown) c.args.unknown c.args.second_port c.read_header-header.result.counts c.read_header-header.ensures.counts-are c.text_sizes-sizes.result (sizes-are (goal.at.returns c).After-text_sizes-sizes) text sized
     _ _ _ c.fill-net.ensures c.args.latch_room c.args.gate_room in
-    outcome-passed _ _ (aag_net c.args.text.now c.args.m c.args.n (imported_word c.args.word c.args.unknown) c.args.unknown c.args.second_port) c.fill-net.result (net-held (goal.at.returns c).After-fill-arg-2-1)
+    outcome-passed _ _ (aag_net c.args.text.now c.args.m c.args.n (imported_word c.args.word c.args.unknown) c.args.unknown c.args.second_port) c.fill-net.result (net-held (goal.at.returns c).After-fill-net text sized)
     (all-passed c.args.text.now c.args.m c.args.n (imported_word c.args.word c.args.unknown) c.args.unknown c.args.second_port c.args.latch_room c.args.gate_room text sized port (sym short ∙ c.if-latch_room-net.false))

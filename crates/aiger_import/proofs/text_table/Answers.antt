@@ -60,7 +60,7 @@ returns c =
     let pre = c.requires in
     let is = sized c.args.text.now c.args.sizes pre.1 c.args.header.counts pre.0.counts-are in
     let reads : 1 + c.args.sizes.inputs + (c.args.sizes.second_port + 1) * c.args.sizes.n ≡ 1 + c.args.header.counts.inputs = omega (arith, is) in
-    table-for c.args.text.now c.args.sizes pre.1 (replicate 661 0) c.put_firsts-reads.new.line.1.1.1.1.0 c.put_firsts-latches.new.line.1.1.1.1.0 c.put_firsts-outputs.new.line.1.1.1.1.0 c.put_firsts-gates.new.line.1.1.1.1.0 c.put_firsts.new.line.1.1.1.1.0
+    table-for c.args.text.now c.args.sizes pre.1 (replicate 661 0) c.put_firsts-reads.new.table c.put_firsts-latches.new.table c.put_firsts-outputs.new.table c.put_firsts-gates.new.table c.put_firsts.new.table
     c.args.header.counts pre.0.counts-are
     (record {
       none = refl;

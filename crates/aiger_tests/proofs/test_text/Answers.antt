@@ -23,7 +23,9 @@ faced c =
 
 -- where no line is not AIGER
 aiger : (c : Else-first-due) → lines_due (counts_in c.args.text.now) ≤ c.first_repeat-first.result
-aiger c = omega (arith, due c⟨After-lines_due⟩)
+aiger c =
+    let due-are : c.lines_due-due.result ≡ lines_due (counts_in c.args.text.now) = c.lines_due-due.ensures ∙ ap lines_due c.requires.counts-are in
+    omega arith
 
 pub returns-then-first-due : goal.returns-then-first-due
 returns-then-first-due c =

@@ -43,9 +43,9 @@ control-is c =
     omega (arith, none)
 
 -- its order
-order-fits : (c : After-order_of-order) → OrderFits c.order_of-order.result
+order-fits : (c : After-order_of-order) → Fits c.args.net → OrderFits c.order_of-order.result
 unfolding net_of
-order-fits c = rw c.order_of-order.ensures (omega (arith, (sizes c⟨Start⟩).wires))
+order-fits c fits = rw c.order_of-order.ensures (omega (arith, fits.wires))
 
 next_fits : (c : Start) (l : ℕ) → l < c.args.net.latches → first_at c.args.latches.now l ≤ 1201
 unfolding net_of
@@ -55,12 +55,12 @@ output-most : (c : Start) (o : ℕ) → output_of (alone c.args.net) o ≤ 1201
 unfolding net_of
 output-most c o = omega (arith, output-fits (alone-fits c).codes o, (sizes c).wires)
 
-gates-fit : (c : After-order_of-order) → GatesFit c.order_of-order.result c.args.gates.now c.args.net.gates
+gates-fit : (c : After-order_of-order) → Fits c.args.net → GatesFit c.order_of-order.result c.args.gates.now c.args.net.gates
 unfolding net_of
-gates-fit c =
+gates-fit c fits =
     rw c.order_of-order.ensures
     (record {
-      wires-fit = (sizes c⟨Start⟩).wires;
+      wires-fit = fits.wires;
       left_below = λ g h. c.requires.0.codes.left-fits g h;
       right-below = λ g h. c.requires.0.codes.right-fits g h;
     })
@@ -99,7 +99,7 @@ pub put_nexts-requires : goal.put_nexts-requires
 put_nexts-requires c =
     let fits = sizes (goal.at.put_nexts-requires c).Start in
     let header = c.put_header-header.ensures in (
-      order-fits (goal.at.put_nexts-requires c).After-order_of-order,
+      order-fits (goal.at.put_nexts-requires c).After-order_of-order fits,
       omega (arith, fits.wires),
       next_fits (goal.at.put_nexts-requires c).Start,
       rest-room header.0 (omega (arith, header.1, fits.wires, c.requires.1)),
@@ -124,7 +124,7 @@ put_outputs-requires c =
     let fits = sizes (goal.at.put_outputs-requires c).Start in
     let header = c.put_header-header.ensures in
     let nexts = c.put_nexts.ensures in (
-      order-fits (goal.at.put_outputs-requires c).After-order_of-order,
+      order-fits (goal.at.put_outputs-requires c).After-order_of-order fits,
       (alone-fits (goal.at.put_outputs-requires c).Start).sizes,
       output-most (goal.at.put_outputs-requires c).Start,
       rest-room (wrote_then _ _ _ _ _ _ _ header.0 nexts.0)
@@ -155,7 +155,7 @@ put_gates-requires c =
     let header = c.put_header-header.ensures in
     let nexts = c.put_nexts.ensures in
     let outputs = c.put_outputs.ensures in (
-      gates-fit (goal.at.put_gates-requires c).After-order_of-order,
+      gates-fit (goal.at.put_gates-requires c).After-order_of-order fits,
       rest-room (wrote_then _ _ _ _ _ _ _ (wrote_then _ _ _ _ _ _ _ header.0 nexts.0) outputs.0)
           (omega (arith, header.1, nexts.1, outputs.1, fits.wires, fits.m-most, fits.n-most, c.requires.1)),
     )

@@ -41,7 +41,7 @@ unfolding gather
 loop-g-preserved c =
     let text = gate_text_at c.args.order c.args.gates.now in (
       omega arith,
-      same_len_mid c.loop-g.at (length c.loop-g.out - c.loop-g.at) c.loop-g.out c.put_gate_at-at.new.out c.put_gate_at-at.auto.0 ∙ c.loop-g.invariant.1,
+      same_len_mid c.loop-g.at (length c.loop-g.out - c.loop-g.at) c.loop-g.out c.put_gate_at-at.new.out c.put_gate_at-at.auto.out ∙ c.loop-g.invariant.1,
       omega (arith, c.loop-g.invariant.2, c.put_gate_at-at.ensures.1),
       rw add-one
           (wrote_then (gather c.loop-g.g text) (text c.loop-g.g) c.args.out.now c.loop-g.out c.put_gate_at-at.new.out c.loop-g.at c.put_gate_at-at.result c.loop-g.invariant.3 c.put_gate_at-at.ensures.0),

@@ -41,7 +41,7 @@ unfolding gather
 loop-l-preserved c =
     let text = next_text c.args.order c.args.latches.now in (
       omega arith,
-      same_len_mid c.loop-l.at (length c.loop-l.out - c.loop-l.at) c.loop-l.out c.put_next-at.new.out c.put_next-at.auto.0 ∙ c.loop-l.invariant.1,
+      same_len_mid c.loop-l.at (length c.loop-l.out - c.loop-l.at) c.loop-l.out c.put_next-at.new.out c.put_next-at.auto.out ∙ c.loop-l.invariant.1,
       omega (arith, c.loop-l.invariant.2, c.put_next-at.ensures.1),
       rw add-one
           (wrote_then (gather c.loop-l.l text) (text c.loop-l.l) c.args.out.now c.loop-l.out c.put_next-at.new.out c.loop-l.at c.put_next-at.result c.loop-l.invariant.3 c.put_next-at.ensures.0),

@@ -54,7 +54,7 @@ unfolding gather
 loop-o-preserved c =
     let text = output_text c.args.order (alone c.args.net) in (
       omega arith,
-      same_len_mid c.loop-o.at (length c.loop-o.out - c.loop-o.at) c.loop-o.out c.put_output-at.new.out c.put_output-at.auto.0 ∙ c.loop-o.invariant.1,
+      same_len_mid c.loop-o.at (length c.loop-o.out - c.loop-o.at) c.loop-o.out c.put_output-at.new.out c.put_output-at.auto.out ∙ c.loop-o.invariant.1,
       omega (arith, c.loop-o.invariant.2, c.put_output-at.ensures.1),
       rw add-one
           (wrote_then (gather c.loop-o.o text) (text c.loop-o.o) c.args.out.now c.loop-o.out c.put_output-at.new.out c.loop-o.at c.put_output-at.result c.loop-o.invariant.3 c.put_output-at.ensures.0),

@@ -34,8 +34,8 @@ loop-i-preserved c =
     let byte = c.scan_byte-position.ensures in
     let piece = c.args.piece.now in (
       omega arith,
-      byte.0,
-      rw (add-one, take-suc piece c.loop-i.i 0 (omega arith)) (taken_then (get_or piece c.loop-i.i 0 ∷ []) c.loop-i.invariant.2 byte.1),
+      byte.holds,
+      rw (add-one, take-suc piece c.loop-i.i 0 (omega arith)) (taken_then (get_or piece c.loop-i.i 0 ∷ []) c.loop-i.invariant.2 byte.taken),
     )
 
 pub returns : goal.returns

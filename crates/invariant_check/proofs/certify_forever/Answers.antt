@@ -15,13 +15,12 @@ returns-in-Refused c =
     let read = c.read_codes-sheet.ensures in
     let v = sym (verdict-is read) ∙ c.in-Refused.is in
     let sent = refused-sent c.args.file.now c.args.invariant.now c.args.requests.now c.args.lemmas.now _ _ v c.args.hints.now (length c.args.store.now) (length c.args.marks.now) in
-    let is = c.refused.ensures ∙ (rw (sym c.number.ensures) at sent) in (
-      is,
-      (
-        λ e. certified-forever c.args.file.now c.args.invariant.now c.args.requests.now c.args.lemmas.now c.args.hints.now (length c.args.store.now) (length c.args.marks.now) (sym (ap (λ (r : CertificateReply). r.certified) is) ∙ e),
-        (refused-kept c.args.file.now c.args.invariant.now c.args.requests.now c.args.lemmas.now _ _ v c.args.store.now, refl),
-      ),
-    )
+    let is = c.refused.ensures ∙ (rw (sym c.number.ensures) at sent) in record {
+      answer = is;
+      certified = λ e. certified-forever c.args.file.now c.args.invariant.now c.args.requests.now c.args.lemmas.now c.args.hints.now (length c.args.store.now) (length c.args.marks.now) (sym (ap (λ (r : CertificateReply). r.certified) is) ∙ e);
+      store = refused-kept c.args.file.now c.args.invariant.now c.args.requests.now c.args.lemmas.now _ _ v c.args.store.now;
+      marks = refl;
+    }
 
 pub certify_net-requires : goal.certify_net-requires
 certify_net-requires c =
@@ -36,13 +35,9 @@ returns c =
     let read = c.read_codes-sheet.ensures in
     let v = sym (verdict-is read) ∙ c.in_default.is in
     let told = rw (holds read v).net-is at c.certify_net.ensures in
-    let is = told.0 ∙ taken-sent c.args.file.now c.args.invariant.now c.args.requests.now c.args.lemmas.now v c.args.hints.now (length c.args.store.now) (length c.args.marks.now) in (
-      is,
-      (
-        λ e. certified-forever c.args.file.now c.args.invariant.now c.args.requests.now c.args.lemmas.now c.args.hints.now (length c.args.store.now) (length c.args.marks.now) (sym (ap (λ (r : CertificateReply). r.certified) is) ∙ e),
-        (
-          told.1.0 ∙ taken-store c.args.file.now c.args.invariant.now c.args.requests.now c.args.lemmas.now v c.args.store.now,
-          rw (← taken-scratch c.args.file.now c.args.invariant.now c.args.requests.now c.args.lemmas.now v (length c.args.store.now) (length c.args.marks.now)) told.1.1,
-        ),
-      ),
-    )
+    let is = told.answer ∙ taken-sent c.args.file.now c.args.invariant.now c.args.requests.now c.args.lemmas.now v c.args.hints.now (length c.args.store.now) (length c.args.marks.now) in record {
+      answer = is;
+      certified = λ e. certified-forever c.args.file.now c.args.invariant.now c.args.requests.now c.args.lemmas.now c.args.hints.now (length c.args.store.now) (length c.args.marks.now) (sym (ap (λ (r : CertificateReply). r.certified) is) ∙ e);
+      store = told.store ∙ taken-store c.args.file.now c.args.invariant.now c.args.requests.now c.args.lemmas.now v c.args.store.now;
+      marks = rw (← taken-scratch c.args.file.now c.args.invariant.now c.args.requests.now c.args.lemmas.now v (length c.args.store.now) (length c.args.marks.now)) told.marks;
+    }

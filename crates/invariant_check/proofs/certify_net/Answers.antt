@@ -13,7 +13,7 @@ pub returns-then-store-need : goal.returns-then-store-need
 unfolding certificate_reply contents_after store_need
 returns-then-store-need c =
     let v = room-short _ _ c.if-store-need.true in
-    (c.refused.ensures ∙ rw (v, c.number.ensures), (rw v, refl))
+    record { answer = c.refused.ensures ∙ rw (v, c.number.ensures); store = rw v; marks = refl }
 
 pub check_step-requires : goal.check_step-requires
 unfolding store_need
@@ -25,4 +25,4 @@ unfolding contents_after scratch_after store_need
 returns c =
     let v = room-enough (store_need (length c.args.invariant.now) (length c.args.requests.now) (length c.args.lemmas.now)) (length c.args.store.now) (omega (arith, c.if-store-need.false)) in
     let checked = c.check_step.ensures in
-    (c.reply_of.ensures ∙ rw (v, checked.0), (rw v checked.1.0, rw v checked.1.1))
+    record { answer = c.reply_of.ensures ∙ rw (v, checked.found); store = rw v checked.store; marks = rw v checked.marks }

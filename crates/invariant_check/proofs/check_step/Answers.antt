@@ -14,34 +14,36 @@ pub overflow_add-end : goal.overflow_add-end
 unfolding store_need
 overflow_add-end c =
     let laid = c.lay-front.ensures in
-    record { fits = omega (arith, laid.0, length-formula (net_of c.args.net c.args.latches.now c.args.gates.now) c.args.invariant.now c.args.requests.now, c.requires.1) }
+    record { fits = omega (arith, laid.front, length-formula (net_of c.args.net c.args.latches.now c.args.gates.now) c.args.invariant.now c.args.requests.now, c.requires.1) }
 
 pub slice_bounds-check-end : goal.slice_bounds-check-end
 unfolding store_need
 slice_bounds-check-end c =
     let laid = c.lay-front.ensures in
     let long = length-formula (net_of c.args.net c.args.latches.now c.args.gates.now) c.args.invariant.now c.args.requests.now in
-    omega (arith, laid.0, long, c.requires.1, laid-length (step_formula (net_of c.args.net c.args.latches.now c.args.gates.now) c.args.invariant.now c.args.requests.now) c.args.lemmas.now c.args.store.now _ laid.1 (omega (arith, long, c.requires.1)))
+    omega (arith, laid.front, long, c.requires.1, laid-length (step_formula (net_of c.args.net c.args.latches.now c.args.gates.now) c.args.invariant.now c.args.requests.now) c.args.lemmas.now c.args.store.now _ laid.store (omega (arith, long, c.requires.1)))
 
 pub slice_bounds-check-end-then-holds_at_start : goal.slice_bounds-check-end-then-holds_at_start
 unfolding store_need
 slice_bounds-check-end-then-holds_at_start c =
     let laid = c.lay-front.ensures in
     let long = length-formula (net_of c.args.net c.args.latches.now c.args.gates.now) c.args.invariant.now c.args.requests.now in
-    sym (length-take-le _ _ (omega (arith, laid.0, long, c.requires.1, laid-length (step_formula (net_of c.args.net c.args.latches.now c.args.gates.now) c.args.invariant.now c.args.requests.now) c.args.lemmas.now c.args.store.now _ laid.1 (omega (arith, long, c.requires.1)))))
+    sym (length-take-le _ _ (omega (arith, laid.front, long, c.requires.1, laid-length (step_formula (net_of c.args.net c.args.latches.now c.args.gates.now) c.args.invariant.now c.args.requests.now) c.args.lemmas.now c.args.store.now _ laid.store (omega (arith, long, c.requires.1)))))
 
 pub returns-then-holds_at_start : goal.returns-then-holds_at_start
 unfolding step_found step_scratch
 returns-then-holds_at_start c =
     let laid = c.lay-front.ensures in
-    let holds = sym (start-lists c.args.net c.args.latches.now c.args.gates.now c.args.invariant.now) ∙ sym c.holds_at_start.ensures ∙ c.if-holds_at_start.true in (
-      rw holds (laid-found _ c.args.lemmas.now c.args.store.now _ laid.1 _ _ _ _ laid.0 c.check.ensures.answer),
-      (laid.1, rw holds (all-scratch c.args.marks.now c.check.new.front.1.1.0 c.check.ensures.refuted.1)),
-    )
+    let holds = sym (start-lists c.args.net c.args.latches.now c.args.gates.now c.args.invariant.now) ∙ sym c.holds_at_start.ensures ∙ c.if-holds_at_start.true in
+    record {
+      found = rw holds (laid-found _ c.args.lemmas.now c.args.store.now _ laid.store _ _ _ _ laid.front c.check.ensures.answer);
+      store = laid.store;
+      marks = rw holds (all-scratch c.args.marks.now c.check.new.marks c.check.ensures.scratch);
+    }
 
 pub returns : goal.returns
 unfolding step_found step_scratch
 returns c =
     let laid = c.lay-front.ensures in
     let fails = sym (start-lists c.args.net c.args.latches.now c.args.gates.now c.args.invariant.now) ∙ sym c.holds_at_start.ensures ∙ c.if-holds_at_start.false in
-    (rw fails, (laid.1, refl))
+    record { found = rw fails; store = laid.store; marks = refl }

@@ -40,7 +40,7 @@ returns-then-g-net c =
       c.code_term-right.ensures,
       c.code_term-left.ensures,
       c.requires.1,
-      lt-ltb c.args.g c.args.net.gates c.if-g-net.taken,
+      lt-ltb c.args.g c.args.net.gates c.if-g-net.true,
     )
 
 pub returns : goal.returns

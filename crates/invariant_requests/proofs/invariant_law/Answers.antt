@@ -14,7 +14,7 @@ unfolding invariant_law
 returns-then-at-invariant c =
     let zs = c.args.invariant.now in
     c.place_law.ensures
-    ∙ rw (read_back (get_or zs c.args.h (pos 0)) (record { sfits = c.place_law-arg-1.given }), lt-ltb c.args.h (length zs) c.if-at-invariant.true)
+    ∙ rw (read_back (get_or zs c.args.h (pos 0)) (record { sfits = (omega arith) }), lt-ltb c.args.h (length zs) c.if-at-invariant.true)
 
 pub returns : goal.returns
 unfolding invariant_law

@@ -12,7 +12,7 @@ use Rattle.invariant_requests.proofs.place_law.Goals as goal
 pub returns-then-parts-eq0 : goal.returns-then-parts-eq0
 unfolding place_law
 returns-then-parts-eq0 c =
-    let is : c.parts_of-parts.result ≡ parts_of c.args.z = rw (read_back c.args.z c.fits.z) at c.parts_of-parts.ensures in
+    let is : c.parts_of-parts.result ≡ parts_of c.args.z = rw (read_back c.args.z c.ranges.z) at c.parts_of-parts.ensures in
     c.pick.ensures
     ∙ rw (
       c.no_law-then-parts-eq0.ensures,
@@ -23,18 +23,18 @@ returns-then-parts-eq0 c =
       c.term-next_none.ensures.0,
       c.term-found.ensures.0,
       c.term-none.ensures.0,
-      ends c.args.z (sym (ap (λ (p : Parts). p.value) is) ∙ c.if-parts-eq0.taken),
+      ends c.args.z (sym (ap (λ (p : Parts). p.value) is) ∙ c.if-parts-eq0.true),
     )
 
 pub overflow_add-after : goal.overflow_add-after
 overflow_add-after c =
-    let is : c.parts_of-parts.result ≡ parts_of c.args.z = rw (read_back c.args.z c.fits.z) at c.parts_of-parts.ensures in
+    let is : c.parts_of-parts.result ≡ parts_of c.args.z = rw (read_back c.args.z c.ranges.z) at c.parts_of-parts.ensures in
     record { fits = omega (arith, c.bit_term.ensures.1, ap (λ (p : Parts). p.sign) is, sign-most c.args.z) }
 
 pub returns : goal.returns
 unfolding place_law
 returns c =
-    let is : c.parts_of-parts.result ≡ parts_of c.args.z = rw (read_back c.args.z c.fits.z) at c.parts_of-parts.ensures in
+    let is : c.parts_of-parts.result ≡ parts_of c.args.z = rw (read_back c.args.z c.ranges.z) at c.parts_of-parts.ensures in
     c.pick-2.ensures
     ∙ rw (
       c.no_law-2.ensures,
@@ -47,5 +47,5 @@ returns c =
       c.term-next_none.ensures.0,
       c.term-found.ensures.0,
       c.term-none.ensures.0,
-      goes_on c.args.z (λ e. c.if-parts-eq0.left (ap (λ (p : Parts). p.value) is ∙ e)),
+      goes_on c.args.z (λ e. c.if-parts-eq0.false (ap (λ (p : Parts). p.value) is ∙ e)),
     )

@@ -16,7 +16,7 @@ pub returns-then-state-eq0 : goal.returns-then-state-eq0
 returns-then-state-eq0 c =
     let zs = c.args.invariant.now in
     let z = get_or zs c.loop-i.i (pos 0) in
-    let is = rw (read_back z (record { sfits = c.next-arg-1.given })) at c.next-state.ensures in
+    let is = rw (read_back z (record { sfits = omega arith })) at c.next-state.ensures in
     let inv = c.loop-i.invariant in
     sym (sym inv.3 ∙ left_at _ c.loop-i.state zs c.loop-i.i inv.1 inv.2 c.loop-i-test.true ∙ rw (sym is ∙ c.if-state-eq0.true) (left-failed _ _))
 
@@ -24,7 +24,7 @@ pub loop-i-preserved : goal.loop-i-preserved
 loop-i-preserved c =
     let zs = c.args.invariant.now in
     let z = get_or zs c.loop-i.i (pos 0) in
-    let is = rw (read_back z (record { sfits = c.next-arg-1.given })) at c.next-state.ensures in
+    let is = rw (read_back z (record { sfits = omega arith })) at c.next-state.ensures in
     let inv = c.loop-i.invariant in
     (omega arith, omega (arith, c.if-state-eq0.false), rw is (progress-most _ c.loop-i.state z inv.2), rw is (sym (left_at _ c.loop-i.state zs c.loop-i.i inv.1 inv.2 c.loop-i-test.true) ∙ inv.3))
 

@@ -1,6 +1,5 @@
 -- `invariant_writer::put_requests` meets its contract. The loop has written the clauses of the requests passed.
 
-use Prim.Native.Nat.{◌-◌}
 use native.Mathlib.Omega.{arith}
 use Rattle.clause_writer.proofs.Turns.{turns-start, turns_next, turns-end}
 use Rattle.invariant_formula.specs.Formula.{requested_clause}

@@ -11,11 +11,11 @@ pub returns-in-Refused : goal.returns-in-Refused
 returns-in-Refused c =
     let v = sym (verdict-is c.read_codes-sheet.ensures) ∙ c.in-Refused.is in
     let w = c.write_refused.ensures in
-    (rw (output-refused c.args.file.now v) w.0, (omega (arith, w.1), (exported, only-due)))
+    record { text = rw (output-refused c.args.file.now v) w.0; most = omega (arith, w.1); exported = exported; refusals = only-due }
 
 pub returns : goal.returns
 returns c =
     let read = c.read_codes-sheet.ensures in
     let v = sym (verdict-is read) ∙ c.in_default.is in
     let w = rw (holds read v).net-is at c.write_export.ensures in
-    (rw (output-tested c.args.file.now v) w.0, (w.1, (exported, only-due)))
+    record { text = rw (output-tested c.args.file.now v) w.0; most = w.1; exported = exported; refusals = only-due }

@@ -25,14 +25,14 @@ pub returns-in-Refused : goal.returns-in-Refused
 returns-in-Refused c =
     let v = sym (verdict-is c.import_text-sheet.ensures) ∙ c.in-Refused.is in
     let w = rw c.number.ensures at c.write_refused.ensures in
-    record { text = rw (printed-refused c.args.more c.args.text.now c.args.m c.args.n c.args.word c.args.unknown c.args.second _ _ v) w.0; most = omega (arith, w.1) }
+    record { text = rw (printed-refused c.args.more c.args.text.now c.args.m c.args.n c.args.word c.args.unknown c.args.second _ _ v) w.text; most = omega (arith, w.most) }
 
 -- what is imported is held by the record and the lists, and its sizes fit
 module _ (c : In_default) where
   passed : import_verdict c.args.text.now c.args.m c.args.n (imported_word c.args.word c.args.unknown) c.args.unknown c.args.second 600 600 ≡ Passed
   passed = sym (verdict-is c.import_text-sheet.ensures) ∙ c.in_default.is
 
-  limits : let c.args = c.args in WithinLimits (aag_net c.args.text.now c.args.m c.args.n (imported_word c.args.word c.args.unknown) c.args.unknown c.args.second)
+  limits : WithinLimits (aag_net c.args.text.now c.args.m c.args.n (imported_word c.args.word c.args.unknown) c.args.unknown c.args.second)
   limits = (import-passed _ _ _ _ _ _ 600 600 passed).accepted.limits
 
   sizes : SizesFit (alone c.import_text-sheet.result.net)

@@ -11,7 +11,7 @@ use Rattle.program_import.proofs.write_output.Goals as goal
 pub returns-then-read-le4194304 : goal.returns-then-read-le4194304
 returns-then-read-le4194304 c =
     let w = c.write_import.ensures in
-    (rw (output-whole c.args.read.now c.args.m c.args.n c.args.word c.args.unknown c.args.second c.if-read-le4194304.true) w.0, (w.1, (room-suffices, (no-code-outside, prefix-suffices))))
+    record { text = rw (output-whole c.args.read.now c.args.m c.args.n c.args.word c.args.unknown c.args.second c.if-read-le4194304.true) w.text; most = w.most; room = room-suffices; codes = no-code-outside; prefix = prefix-suffices }
 
 pub slice_bounds-write_import-end : goal.slice_bounds-write_import-end
 slice_bounds-write_import-end c =
@@ -20,4 +20,4 @@ slice_bounds-write_import-end c =
 pub returns : goal.returns
 returns c =
     let w = c.write_import-2.ensures in
-    (rw (output-cut c.args.read.now c.args.m c.args.n c.args.word c.args.unknown c.args.second c.if-read-le4194304.false) w.0, (w.1, (room-suffices, (no-code-outside, prefix-suffices))))
+    record { text = rw (output-cut c.args.read.now c.args.m c.args.n c.args.word c.args.unknown c.args.second c.if-read-le4194304.false) w.text; most = w.most; room = room-suffices; codes = no-code-outside; prefix = prefix-suffices }

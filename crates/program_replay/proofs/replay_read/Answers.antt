@@ -6,7 +6,8 @@ use Rattle.program_replay.proofs.replay_read.Goals as goal
 
 pub returns : goal.returns
 returns c =
-    let told = c.replay.ensures in (
-      (λ text read. c.reply_of.ensures ∙ told.0 ∙ replay-is _ _ _ _ read _ _),
-      ((λ text read. told.1.0 ∙ memory-is _ _ _ _ read _ _), (λ text read. told.1.1.0 ∙ trace-is _ _ _ _ read _ _)),
-    )
+    let told = c.replay.ensures in record {
+      answer = λ text read. c.reply_of.ensures ∙ told.answer ∙ replay-is _ _ _ _ read _ _;
+      memory = λ text read. told.memory ∙ memory-is _ _ _ _ read _ _;
+      trace = λ text read. told.trace ∙ trace-is _ _ _ _ read _ _;
+    }

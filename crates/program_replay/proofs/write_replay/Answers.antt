@@ -41,16 +41,16 @@ pub returns : goal.returns
 unfolding net_of
 returns c =
     let net = net_of c.args.net c.args.latches.now c.args.gates.now in
-    let lines : List ℕ = c.replay_read-reply.new.latches.1.1.1.1.1.1.0 in
+    let lines : List ℕ = c.replay_read-reply.new.trace in
     let lent = c.no_lines-trace.ensures in
-    let words = c.no_words-memory.ensures in (
-      λ text t.
+    let words = c.no_words-memory.ensures in record {
+      text = λ text t.
           let printed : take c.write_answer-first.result c.write_answer-first.new.out ++ take c.trace_bytes-bytes.result lines ≡ replayed_text net c.args.depth text =
           ap (λ (x : List ℕ). x ++ take c.trace_bytes-bytes.result lines) (wrote-front c.write_answer-first.ensures.text)
           ∙ replayed-text net c.args.depth text c.no_lines-trace.result c.replay_read-reply.result lines c.trace_bytes-bytes.result
-          c.requires.0 c.requires.1 lent (rw (words, lent) at (c.replay_read-reply.ensures.answer text t)) (rw words at (c.replay_read-reply.ensures.memory.1 text t)) c.trace_bytes-bytes.ensures.bytes in
-          subst (λ (x : List ℕ). Wrote x c.args.out.now c.write_both.new.out c.write_both.result) printed c.write_both.ensures,
-      (
+          c.requires.0 c.requires.1 lent (rw (words, lent) at (c.replay_read-reply.ensures.answer text t)) (rw words at (c.replay_read-reply.ensures.trace text t)) c.trace_bytes-bytes.ensures.bytes in
+          subst (λ (x : List ℕ). Wrote x c.args.out.now c.write_both.new.out c.write_both.result) printed c.write_both.ensures;
+      most =
         omega (
           arith,
           c.write_both.ensures.counted,
@@ -59,7 +59,6 @@ returns c =
           slice_bounds-write_both-end-2 (goal.at.returns c).After-trace-3-1,
           c.write_answer-first.ensures.most,
           c.trace_bytes-bytes.ensures.most,
-        ),
-        room-suffices,
-      ),
-    )
+        );
+      room = room-suffices;
+    }

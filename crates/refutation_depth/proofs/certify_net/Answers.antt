@@ -9,7 +9,7 @@ use Rattle.refutation_depth.proofs.certify_net.Goals as goal
 pub returns-in-Refused : goal.returns-in-Refused
 unfolding certificate_reply contents_after
 returns-in-Refused c = let v = sym c.test_room.ensures ∙ c.in-Refused.is in
-    (c.refused.ensures ∙ rw (v, c.number.ensures), (rw v, refl))
+    record { answer = c.refused.ensures ∙ rw (v, c.number.ensures); store = rw v; marks = refl }
 
 pub check_depth-requires : goal.check_depth-requires
 check_depth-requires c = let shown = both-shown _ _ _ _ _ (sym c.test_room.ensures ∙ c.in_default.is) in
@@ -19,4 +19,4 @@ pub returns : goal.returns
 unfolding contents_after scratch_after
 returns c = let v = sym c.test_room.ensures ∙ c.in_default.is in
     let checked = c.check_depth.ensures in
-    (c.reply_of.ensures ∙ rw (v, checked.0), (rw v checked.1.0, rw v checked.1.1))
+    record { answer = c.reply_of.ensures ∙ rw (v, checked.found); store = rw v checked.store; marks = rw v checked.marks }

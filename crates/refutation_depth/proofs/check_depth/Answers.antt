@@ -27,7 +27,9 @@ pub returns : goal.returns
 returns c =
     let laid = c.lay-front.ensures in
     let lists = marks-lists c.args.net c.args.latches.now c.args.gates.now c.args.depth in
-    let room : c.marks_need-need.result ≤ length c.args.marks.now = omega (arith, c.requires.3, c.marks_need-need.ensures, lists) in (
-      depth-found _ _ _ _ _ _ _ _ _ _ laid.0 laid.1 (c.marks_need-need.ensures ∙ lists) room c.check.ensures.answer,
-      (laid.1, behind-kept _ c.marks_need-need.result c.args.marks.now c.check.new.front.1.1.0 (c.marks_need-need.ensures ∙ lists) room c.check.ensures.refuted.1),
-    )
+    let room : c.marks_need-need.result ≤ length c.args.marks.now = omega (arith, c.requires.3, c.marks_need-need.ensures, lists) in
+    record {
+      found = depth-found _ _ _ _ _ _ _ _ _ _ laid.front laid.store (c.marks_need-need.ensures ∙ lists) room c.check.ensures.answer;
+      store = laid.store;
+      marks = behind-kept _ c.marks_need-need.result c.args.marks.now c.check.new.marks (c.marks_need-need.ensures ∙ lists) room c.check.ensures.scratch;
+    }

@@ -61,7 +61,7 @@ followed : (c : After-next_group-next) →
     ≤ remaining_after (ports (alone c.args.net)) c.args.depth due)
 followed c =
     let e = rw c.port_count-ports.ensures at c.next_group-next.ensures in
-    (e.0, e.1.1)
+    (e.follows, e.ends)
 
 pub loop-next-smaller : goal.loop-next-smaller
 loop-next-smaller c = rw c.in-Then.is (omega (arith, (followed c).1))
@@ -69,7 +69,7 @@ loop-next-smaller c = rw c.in-Then.is (omega (arith, (followed c).1))
 pub loop-next-preserved : goal.loop-next-preserved
 unfolding net_of
 loop-next-preserved c = (
-  c.put_where_room-at.auto.1.0 ∙ c.loop-next.invariant.0,
+  c.put_where_room-at.auto.numbers ∙ c.loop-next.invariant.0,
   one_more (so_far (goal.at.loop-next-preserved c).In-Then) c.put_where_room-at.new.out c.smaller-from.result c.put_where_room-at.result c.next_group-next.result c.smaller-from.ensures.0 c.smaller-from.ensures.1 c.put_where_room-at.ensures.put_where_room.0 (followed c).0,
   omega (arith, rw c.in-Then.is at c.loop-next.invariant.2, c.put_where_room-at.ensures.put_where_room.1, (followed c).1),
 )

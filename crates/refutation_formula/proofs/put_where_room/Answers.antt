@@ -29,11 +29,11 @@ pub slice_bounds-copy_numbers-end : goal.slice_bounds-copy_numbers-end
 slice_bounds-copy_numbers-end c = within (goal.at.slice_bounds-copy_numbers-end c).After-put_group-count
 
 pub slice_bounds-copy_numbers-end-then-count-out : goal.slice_bounds-copy_numbers-end-then-count-out
-slice_bounds-copy_numbers-end-then-count-out c = sym (length-take-le _ _ (within (goal.at.slice_bounds-copy_numbers-end-then-count-out c).After-put_group-arg-1))
+slice_bounds-copy_numbers-end-then-count-out c = sym (length-take-le _ _ (within (goal.at.slice_bounds-copy_numbers-end-then-count-out c).After-put_group-count))
 
 pub copy_numbers-requires : goal.copy_numbers-requires
 copy_numbers-requires c =
-    let e : length (take c.put_group-count.result c.put_group-count.new.out) ≡ c.put_group-count.result = length-take-le _ _ (within (goal.at.copy_numbers-requires c).After-put_group-arg-1) in
+    let e : length (take c.put_group-count.result c.put_group-count.new.out) ≡ c.put_group-count.result = length-take-le _ _ (within (goal.at.copy_numbers-requires c).After-put_group-count) in
     omega (arith, c.if-count-out.true)
 
 pub returns-then-count-out : goal.returns-then-count-out

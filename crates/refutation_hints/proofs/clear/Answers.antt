@@ -1,6 +1,5 @@
 -- `refutation_hints::clear` meets its contract. The loop has made every mark passed 0.
 
-use Prim.Native.Nat.{◌-◌}
 use native.Mathlib.Omega.{arith}
 use lib.ListN.{length-set}
 use Rattle.refutation_hints.proofs.Marks.{cleared_more, cleared-all}

@@ -10,7 +10,7 @@ use Rattle.refutation_hints.specs.Marks.{false_in}
 use Rattle.refutation_hints.proofs.lemma_follows.Goals as goal
 
 pub propagate-requires : goal.propagate-requires
-propagate-requires c = c.mark_lemma.ensures.marked.1
+propagate-requires c = c.mark_lemma.ensures.scratch
 
 pub returns-then-mark_lemma : goal.returns-then-mark_lemma
 unfolding follows
@@ -20,8 +20,8 @@ returns-then-mark_lemma c =
     record {
       answer = rw all
           (c.propagate.ensures.answer
-          ∙ ap (λ (k : ℕ). propagates (k / 2) c.args.known.now (false_in c.mark_lemma.new.marks.0 c.args.turn) c.args.hints.now) c.mark_lemma.auto.1.0
-          ∙ ap (λ (f : ℤ → Bool). propagates (length c.args.marks.now / 2) c.args.known.now f c.args.hints.now) (fun_ext (c.mark_lemma.ensures.marked.0 taken)));
+          ∙ ap (λ (k : ℕ). propagates (k / 2) c.args.known.now (false_in c.mark_lemma.new.marks c.args.turn) c.args.hints.now) c.mark_lemma.auto.marks
+          ∙ ap (λ (f : ℤ → Bool). propagates (length c.args.marks.now / 2) c.args.known.now f c.args.hints.now) (fun_ext (c.mark_lemma.ensures.marked taken)));
       scratch = c.propagate.ensures.scratch;
     }
 
@@ -29,4 +29,4 @@ pub returns : goal.returns
 unfolding follows
 returns c =
     let some = sym c.mark_lemma.ensures.answer ∙ c.if-mark_lemma.false in
-    record { answer = rw some; scratch = c.mark_lemma.ensures.marked.1 }
+    record { answer = rw some; scratch = c.mark_lemma.ensures.scratch }

@@ -1,6 +1,6 @@
 -- `refutation_hints::mark_lemma` meets its contract. What is marked and what is left of the lemma are the lemma.
 
-use Prim.Native.Nat.{◌+◌, ◌-◌, ◌*◌, ◌/◌, ◌<◌}
+use Prim.Native.Nat.{◌+◌, ◌*◌, ◌/◌, ◌<◌}
 use mathlib.Core.Path.{◌≡◌, refl, sym, ◌∙◌}
 use mathlib.Core.Bool.{false≢true, or-false}
 use native.Mathlib.Omega.{arith}
@@ -20,7 +20,7 @@ read : (c : After-slot-s) →
     c.slot-s.result ≡ slot_of (get_or c.args.lemma.now c.loop-i.i (pos 0))
 read c =
     c.slot-s.ensures
-    ∙ slot_read c.args.lemma.now c.loop-i.i c.slot-arg-1.given
+    ∙ slot_read c.args.lemma.now c.loop-i.i (omega arith)
 
 pub loop-i-init : goal.loop-i-init
 loop-i-init c = (
@@ -41,9 +41,9 @@ pub returns-then-limit-s : goal.returns-then-limit-s
 returns-then-limit-s c =
     let n = length c.args.marks.now / 2 in
     let z = get_or c.args.lemma.now c.loop-i.i (pos 0) in
-    let past = slot-within n z ∙ le-ltb (slot_of z) (n * 2) (rw (read (goal.at.returns-then-limit-s c).After-slot-s) c.loop-i c.if-limit-s.true) in
+    let past = slot-within n z ∙ le-ltb (slot_of z) (n * 2) (rw (read (goal.at.returns-then-limit-s c).After-slot-s) at c.if-limit-s.true) in
     let here = every_here (within n) c.args.lemma.now c.loop-i.i c.loop-i-test.true in
-    (sym (rw past c.loop-i here) ∙ c.loop-i.invariant.3, (λ e. absurd (false≢true e), c.loop-i.invariant.2))
+    record { answer = sym (rw past at here) ∙ c.loop-i.invariant.3; marked = λ e. absurd (false≢true e); scratch = c.loop-i.invariant.2 }
 
 pub bounds-marks-s : goal.bounds-marks-s
 bounds-marks-s c = omega (arith, c.loop-i.invariant.1)
@@ -60,16 +60,16 @@ loop-i-preserved c =
     let z = get_or c.args.lemma.now c.loop-i.i (pos 0) in
     let is = read (goal.at.loop-i-preserved c).After-slot-s in
     let taken = c.loop-i-test.true in
-    let low = rw is c.loop-i c.if-limit-s.false in
+    let low = rw is at c.if-limit-s.false in
     let room : slot_of z < length c.loop-i.marks = omega (arith, low, c.loop-i.invariant.1) in
     let marked = slot-within n z ∙ lt-ltb (slot_of z) (n * 2) low in (
       omega arith,
       simp length-set c.loop-i.invariant.1,
       rw is (up_to-more c.loop-i.marks c.args.turn (slot_of z) room c.loop-i.invariant.2),
-      sym (rw marked c.loop-i (every_here (within n) c.args.lemma.now c.loop-i.i taken)) ∙ c.loop-i.invariant.3,
+      sym (rw marked at (every_here (within n) c.args.lemma.now c.loop-i.i taken)) ∙ c.loop-i.invariant.3,
       rw is
           (λ y. marked_more c.loop-i.marks c.args.turn z room y (among y (drop (c.loop-i.i + 1) c.args.lemma.now)) (among y c.args.lemma.now)
-          (rw (among-here y c.args.lemma.now c.loop-i.i taken) c.loop-i (c.loop-i.invariant.4 y))),
+          (rw (among-here y c.args.lemma.now c.loop-i.i taken) at (c.loop-i.invariant.4 y))),
     )
 
 pub shape_of-marks : goal.shape_of-marks
@@ -79,4 +79,8 @@ pub returns : goal.returns
 unfolding every among
 returns c =
     let none = drop_of_length-le c.args.lemma.now c.loop-i-test.false in
-    (rw none at c.loop-i.invariant.3, (λ e z. sym (or-false (false_in c.loop-i.marks c.args.turn z)) ∙ rw none c.loop-i (c.loop-i.invariant.4 z), c.loop-i.invariant.2))
+    record {
+      answer = rw none at c.loop-i.invariant.3;
+      marked = λ e z. sym (or-false (false_in c.loop-i.marks c.args.turn z)) ∙ rw none at (c.loop-i.invariant.4 z);
+      scratch = c.loop-i.invariant.2;
+    }

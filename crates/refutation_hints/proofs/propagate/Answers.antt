@@ -1,6 +1,6 @@
 -- `refutation_hints::propagate` meets its contract. The hints that are left lead from what is false now where all hints led from what was false.
 
-use Prim.Native.Nat.{ℕ, ◌+◌, ◌-◌, ◌/◌, ◌≤◌, ◌<◌}
+use Prim.Native.Nat.{ℕ, ◌+◌, ◌/◌, ◌≤◌, ◌<◌}
 use mathlib.Core.Path.{◌≡◌, refl, sym, ◌∙◌, fun_ext}
 use mathlib.Core.Bool.{Bool, true, false, ◌||◌}
 use mathlib.Core.List.{List}
@@ -11,11 +11,11 @@ use lib.ListN.{length, get_or, drop, length-set, drop_of_length-le}
 use lib.Seq.{drop-cons}
 use Rattle.answer_signs.specs.Signs.{same_number}
 use Rattle.refutation_hints.specs.Propagation.{conflict, unit, undecided, hint_outcome, propagates}
-use Rattle.refutation_hints.specs.Marks.{slot_of, false_in}
+use Rattle.refutation_hints.specs.Marks.{slot_of, false_in, code_of}
 use Rattle.refutation_hints.proofs.Marks.{false-more, up_to-more}
 use Rattle.refutation_hints.proofs.Outcomes.{hint-sane, code-conflict, code-undecided, IsUnit, code-unit}
 use Rattle.refutation_hints.proofs.propagate.Goals as goal
-use Rattle.refutation_hints.proofs.propagate.Goals.{After-opposite-other, Else-outcome-eq1}
+use Rattle.refutation_hints.proofs.propagate.Goals.{After-opposite-other}
 
 -- one hint more
 module _ (n : ℕ) (known : List ℤ) (f : ℤ → Bool) (hints : List ℕ) (i : ℕ) (l : i < length hints) where
@@ -43,7 +43,7 @@ pub bounds-hints-i : goal.bounds-hints-i
 bounds-hints-i c = omega arith
 
 pub overflow_cast-hints : goal.overflow_cast-hints
-overflow_cast-hints c = omega (arith, c.shared_slice_known-in-loop-i-1.given c.loop-i.i)
+overflow_cast-hints c = omega arith
 
 pub shape_of-marks-then-outcome-eq0 : goal.shape_of-marks-then-outcome-eq0
 shape_of-marks-then-outcome-eq0 c = c.loop-i.invariant.1
@@ -68,24 +68,20 @@ returns-then-outcome-eq1 c =
     record { answer = sym (propagates-undecided n c.args.known.now f c.args.hints.now c.loop-i.i c.loop-i-test.true is) ∙ c.loop-i.invariant.3; scratch = c.loop-i.invariant.2 }
 
 -- the hint's clause is a unit
-its-unit : (c : Else-outcome-eq1) →
-    IsUnit (length c.loop-i.marks / 2)
-    (hint_outcome (length c.loop-i.marks / 2) c.args.known.now (false_in c.loop-i.marks c.args.turn) (get_or c.args.hints.now c.loop-i.i 0))
-its-unit c =
-    let c.loop-i = c.loop-i in
-    let c.args = c.args in
-    let n = length c.loop-i.marks / 2 in
-    let f = false_in c.loop-i.marks c.args.turn in
-    let h = get_or c.args.hints.now c.loop-i.i 0 in
-    let e = c.hint_outcome-outcome.ensures in
-    code-unit n (hint_outcome n c.args.known.now f h) (hint-sane n c.args.known.now f h) (λ p. c.if-outcome-eq0.false (e ∙ p)) (λ p. c.if-outcome-eq1.false (e ∙ p))
+its-unit : (known : List ℤ) (marks : List ℕ) (turn hint outcome : ℕ)
+    → outcome ≡ code_of (hint_outcome (length marks / 2) known (false_in marks turn) hint) → (outcome ≡ 0 → ⊥) → (outcome ≡ 1 → ⊥)
+    → IsUnit (length marks / 2) (hint_outcome (length marks / 2) known (false_in marks turn) hint)
+its-unit known marks turn hint outcome e no-conflict decided =
+    let n = length marks / 2 in
+    let f = false_in marks turn in
+    code-unit n (hint_outcome n known f hint) (hint-sane n known f hint) (λ p. no-conflict (e ∙ p)) (λ p. decided (e ∙ p))
 
 pub opposite-other-requires : goal.opposite-other-requires
-opposite-other-requires c = omega (arith, c.hint_outcome-outcome.ensures, (its-unit c).least)
+opposite-other-requires c = omega (arith, c.hint_outcome-outcome.ensures, (its-unit c.args.known.now c.loop-i.marks c.args.turn (get_or c.args.hints.now c.loop-i.i 0) c.hint_outcome-outcome.result c.hint_outcome-outcome.ensures c.if-outcome-eq0.false c.if-outcome-eq1.false).least)
 
 -- the mark of its opposite
 room : (c : After-opposite-other) → c.opposite-other.result < length c.loop-i.marks
-room c = omega (arith, c.hint_outcome-outcome.ensures, (its-unit c⟨Else2⟩).most, c.opposite-other.ensures.1)
+room c = omega (arith, c.hint_outcome-outcome.ensures, (its-unit c.args.known.now c.loop-i.marks c.args.turn (get_or c.args.hints.now c.loop-i.i 0) c.hint_outcome-outcome.result c.hint_outcome-outcome.ensures c.if-outcome-eq0.false c.if-outcome-eq1.false).most, c.opposite-other.ensures.1)
 
 pub offset_bounds-marks-other : goal.offset_bounds-marks-other
 offset_bounds-marks-other c =
@@ -104,13 +100,13 @@ pub loop-i-preserved : goal.loop-i-preserved
 loop-i-preserved c =
     let n = length c.loop-i.marks / 2 in
     let f = false_in c.loop-i.marks c.args.turn in
-    let u = its-unit (goal.at.loop-i-preserved c).Else-outcome-eq1 in
+    let u = its-unit c.args.known.now c.loop-i.marks c.args.turn (get_or c.args.hints.now c.loop-i.i 0) c.hint_outcome-outcome.result c.hint_outcome-outcome.ensures c.if-outcome-eq0.false c.if-outcome-eq1.false in
     let is : c.opposite-other.result ≡ slot_of (neg_ℤ u.z) = c.opposite-other.ensures.0 u.z (u.slot ∙ sym c.hint_outcome-outcome.ensures) in
-    let more = fun_ext (false-more c.loop-i.marks c.args.turn (neg_ℤ u.z) (rw is c.loop-i (room c))) in
+    let more = fun_ext (false-more c.loop-i.marks c.args.turn (neg_ℤ u.z) (rw is at (room (goal.at.loop-i-preserved c).After-opposite-other))) in
     let on = propagates-unit n c.args.known.now f c.args.hints.now c.loop-i.i c.loop-i-test.true u.z u.is in (
       omega arith,
       simp length-set c.loop-i.invariant.1,
-      up_to-more c.loop-i.marks c.args.turn c.opposite-other.result (room c) c.loop-i.invariant.2,
+      up_to-more c.loop-i.marks c.args.turn c.opposite-other.result (room (goal.at.loop-i-preserved c).After-opposite-other) c.loop-i.invariant.2,
       rw (length-set, is, more) (sym on ∙ c.loop-i.invariant.3),
     )
 

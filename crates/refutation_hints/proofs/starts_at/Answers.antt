@@ -12,7 +12,7 @@ returns-then-place-eq0 c = sym (starts-front c.args.known.now c.args.place c.if-
 
 pub returns-then-before-known : goal.returns-then-before-known
 returns-then-before-known c =
-    let read = c.slot.ensures ∙ slot_read c.args.known.now _ c.slot-arg-1.given in
+    let read = c.slot.ensures ∙ slot_read c.args.known.now _ (omega arith) in
     let d = c.if-place-eq0.false in
     rw read (starts-behind c.args.known.now c.args.place (c.args.place - 1) (omega arith) c.if-before-known.true)
 

@@ -28,12 +28,6 @@ found formula lemmas hints k m left r e l p =
 
 module _ (c : After-is_justified) where
   -- what a lemma is checked with
-  abbrev at-loop : tie.At-loop
-  at-loop = c⟨At-loop⟩
-
-  abbrev start : tie.Start
-  start = c⟨Start⟩
-
   abbrev n : ℕ
   n = length c.clear.new.marks / 2
 
@@ -41,20 +35,20 @@ module _ (c : After-is_justified) where
   end = c.clause_end-end.result
 
   abbrev count : ℕ
-  count = get_or start.args.hints.now at-loop.loop.i 0
+  count = get_or c.args.hints.now c.loop-i.i 0
 
   abbrev enough : Bool
-  enough = leb count (length (drop (at-loop.loop.i + 1) start.args.hints.now))
+  enough = leb count (length (drop (c.loop-i.i + 1) c.args.hints.now))
 
   abbrev lemma-follows : Bool
   lemma-follows =
-      follows n (take at-loop.loop.at start.args.store.now)
-      (take (end - at-loop.loop.at) (drop at-loop.loop.at start.args.store.now))
-      (take count (drop (at-loop.loop.i + 1) start.args.hints.now))
+      follows n (take c.loop-i.at c.args.store.now)
+      (take (end - c.loop-i.at) (drop c.loop-i.at c.args.store.now))
+      (take count (drop (c.loop-i.i + 1) c.args.hints.now))
 
   -- the marks are as many as they were
-  as_many : length c.is_justified.new.at.1.1.1.1.1.0 ≡ length c.clear.new.marks
-  as_many = c.is_justified.auto.1.1.1.1.1.1.0 ∙ c.next_turn-turn.auto.0 ∙ at-loop.loop.inv.2
+  as_many : length c.is_justified.new.marks ≡ length c.clear.new.marks
+  as_many = c.is_justified.auto.marks ∙ c.next_turn-turn.auto.marks ∙ c.loop-i.invariant.2
 
   justified : c.is_justified.result ≡ (enough && lemma-follows)
   justified =
@@ -62,32 +56,32 @@ module _ (c : After-is_justified) where
       ∙ ap
       (λ (k : ℕ).
       enough
-      && follows (k / 2) (take at-loop.loop.at start.args.store.now)
-      (take (end - at-loop.loop.at) (drop at-loop.loop.at start.args.store.now))
-      (take count (drop (at-loop.loop.i + 1) start.args.hints.now)))
-      (c.next_turn-turn.auto.0 ∙ at-loop.loop.inv.2)
+      && follows (k / 2) (take c.loop-i.at c.args.store.now)
+      (take (end - c.loop-i.at) (drop c.loop-i.at c.args.store.now))
+      (take count (drop (c.loop-i.i + 1) c.args.hints.now)))
+      (c.next_turn-turn.auto.marks ∙ c.loop-i.invariant.2)
 
   -- and what is found of the lemmas behind it
   abbrev rest : Checked
   rest =
-      checked_from n (take (end + 1) start.args.store.now) (clauses_in (drop (end + 1) start.args.store.now))
-      (drop (at-loop.loop.i + 1 + count) start.args.hints.now) (at-loop.loop.lemma + 1)
+      checked_from n (take (end + 1) c.args.store.now) (clauses_in (drop (end + 1) c.args.store.now))
+      (drop (c.loop-i.i + 1 + count) c.args.hints.now) (c.loop-i.lemma + 1)
 
   step :
-      (t q : Bool) → c.is_justified.result ≡ t → eqb end at-loop.loop.at ≡ q
-      → checked_from n (take at-loop.loop.at start.args.store.now) (clauses_in (drop at-loop.loop.at start.args.store.now))
-      (drop at-loop.loop.i start.args.hints.now) at-loop.loop.lemma
-      ≡ cond t (cond q Refuted rest) (Unjustified at-loop.loop.lemma)
+      (t q : Bool) → c.is_justified.result ≡ t → eqb end c.loop-i.at ≡ q
+      → checked_from n (take c.loop-i.at c.args.store.now) (clauses_in (drop c.loop-i.at c.args.store.now))
+      (drop c.loop-i.i c.args.hints.now) c.loop-i.lemma
+      ≡ cond t (cond q Refuted rest) (Unjustified c.loop-i.lemma)
   step t q p e =
-      checked-here start.args.store.now at-loop.loop.at end c.clause_end-end.ensures c.if-store-end.false n
-      start.args.hints.now at-loop.loop.i at-loop.loop.lemma c.loop-i-test.true
-      ∙ ap (λ (x : Bool). cond x (cond (eqb end at-loop.loop.at) Refuted rest) (Unjustified at-loop.loop.lemma)) (sym justified ∙ p)
-      ∙ ap (λ (x : Bool). cond t (cond x Refuted rest) (Unjustified at-loop.loop.lemma)) e
+      checked-here c.args.store.now c.loop-i.at end c.clause_end-end.ensures c.if-store-end.false n
+      c.args.hints.now c.loop-i.i c.loop-i.lemma c.loop-i-test.true
+      ∙ ap (λ (x : Bool). cond x (cond (eqb end c.loop-i.at) Refuted rest) (Unjustified c.loop-i.lemma)) (sym justified ∙ p)
+      ∙ ap (λ (x : Bool). cond t (cond x Refuted rest) (Unjustified c.loop-i.lemma)) e
 
   -- its hints are there
-  hints-there : c.is_justified.result ≡ true → at-loop.loop.i + 1 + count ≤ length start.args.hints.now
+  hints-there : c.is_justified.result ≡ true → c.loop-i.i + 1 + count ≤ length c.args.hints.now
   hints-there t =
-      let there = leb-true count (length (drop (at-loop.loop.i + 1) start.args.hints.now)) ((and-true enough lemma-follows).0 (sym justified ∙ t)).0 in
+      let there = leb-true count (length (drop (c.loop-i.i + 1) c.args.hints.now)) ((and-true enough lemma-follows).0 (sym justified ∙ t)).0 in
       omega (arith, simp length-drop at there, c.loop-i-test.true)
 
 pub loop-i-init : goal.loop-i-init
@@ -95,12 +89,13 @@ unfolding checked
 loop-i-init c = (omega arith, omega arith, refl, c.clear.ensures, refl)
 
 pub shape_of-marks-then-store-end : goal.shape_of-marks-then-store-end
-shape_of-marks-then-store-end c = c.loop-i.invariant.2 ∙ c.clear.auto.0
+shape_of-marks-then-store-end c = c.loop-i.invariant.2 ∙ c.clear.auto.marks
 
 pub returns-then-store-end : goal.returns-then-store-end
 returns-then-store-end c =
-    found (take c.args.front c.args.store.now) (drop c.args.front c.args.store.now) c.args.hints.now (length c.clear.new.marks) (length c.args.marks.now) _ _ c.clear.auto.0 c.loop-i.invariant.2
-    (sym (checked-none (length c.clear.new.marks / 2) c.args.store.now c.loop-i.at c.clause_end-end.result c.clause_end-end.ensures c.if-store-end.true (drop c.loop-i.i c.args.hints.now) c.loop-i.lemma) ∙ c.loop-i.invariant.4)
+    let is = found (take c.args.front c.args.store.now) (drop c.args.front c.args.store.now) c.args.hints.now (length c.clear.new.marks) (length c.args.marks.now) _ _ c.clear.auto.marks c.loop-i.invariant.2
+    (sym (checked-none (length c.clear.new.marks / 2) c.args.store.now c.loop-i.at c.clause_end-end.result c.clause_end-end.ensures c.if-store-end.true (drop c.loop-i.i c.args.hints.now) c.loop-i.lemma) ∙ c.loop-i.invariant.4) in
+    record { answer = is.0; refuted = is.1.0; scratch = is.1.1 }
 
 pub next_turn-turn-requires : goal.next_turn-turn-requires
 next_turn-turn-requires c = c.loop-i.invariant.3
@@ -109,7 +104,7 @@ pub bounds-hints-i : goal.bounds-hints-i
 bounds-hints-i c = omega (arith, c.loop-i-test.true)
 
 pub overflow_cast-count : goal.overflow_cast-count
-overflow_cast-count c = omega (arith, c.shared_slice_known-in-loop-i-1.given c.loop-i.i)
+overflow_cast-count c = omega (arith, c.type_inv.hints c.loop-i.i)
 
 pub overflow_add-first : goal.overflow_add-first
 overflow_add-first c = omega (arith, c.loop-i-test.true)
@@ -123,29 +118,30 @@ is_justified-requires c = (
 )
 
 pub shape_of-marks-then-end-at : goal.shape_of-marks-then-end-at
-shape_of-marks-then-end-at c = as_many (goal.at.shape_of-marks-then-end-at c).After-is_justified ∙ c.clear.auto.0
+shape_of-marks-then-end-at c = as_many (goal.at.shape_of-marks-then-end-at c).After-is_justified ∙ c.clear.auto.marks
 
 pub returns-then-end-at : goal.returns-then-end-at
 returns-then-end-at c =
     let here = step (goal.at.returns-then-end-at c).After-is_justified true true c.if-is_justified.true (eq-eqb c.clause_end-end.result c.loop-i.at c.if-end-at.true) in
-    found (take c.args.front c.args.store.now) (drop c.args.front c.args.store.now) c.args.hints.now (length c.clear.new.marks) (length c.args.marks.now) _ _ c.clear.auto.0 (as_many (goal.at.returns-then-end-at c).After-is_justified)
-    (sym here ∙ c.loop-i.invariant.4)
+    let is = found (take c.args.front c.args.store.now) (drop c.args.front c.args.store.now) c.args.hints.now (length c.clear.new.marks) (length c.args.marks.now) _ _ c.clear.auto.marks (as_many (goal.at.returns-then-end-at c).After-is_justified)
+    (sym here ∙ c.loop-i.invariant.4) in
+    record { answer = is.0; refuted = is.1.0; scratch = is.1.1 }
 
 pub overflow_add-at : goal.overflow_add-at
 overflow_add-at c = omega (arith, c.if-store-end.false, c.well_formed.0.0)
 
 pub overflow_add-i : goal.overflow_add-i
-overflow_add-i c = omega (arith, hints-there at c.if-is_justified.true, c.well_formed.1.1.0.0)
+overflow_add-i c = omega (arith, hints-there (goal.at.overflow_add-i c).After-is_justified c.if-is_justified.true, c.well_formed.1.1.0.0)
 
 pub overflow_add-lemma : goal.overflow_add-lemma
-overflow_add-lemma c = omega (arith, hints-there at c.if-is_justified.true, c.loop-i.invariant.1, c.well_formed.1.1.0.0)
+overflow_add-lemma c = omega (arith, hints-there (goal.at.overflow_add-lemma c).After-is_justified c.if-is_justified.true, c.loop-i.invariant.1, c.well_formed.1.1.0.0)
 
 pub loop-i-smaller : goal.loop-i-smaller
-loop-i-smaller c = omega (arith, hints-there at c.if-is_justified.true, c.loop-i-test.true)
+loop-i-smaller c = omega (arith, hints-there (goal.at.loop-i-smaller c).After-is_justified c.if-is_justified.true, c.loop-i-test.true)
 
 pub loop-i-preserved : goal.loop-i-preserved
 loop-i-preserved c =
-    let there = hints-there at c.if-is_justified.true in
+    let there = hints-there (goal.at.loop-i-preserved c).After-is_justified c.if-is_justified.true in
     let here = step (goal.at.loop-i-preserved c).After-is_justified true false c.if-is_justified.true (ne_eqb c.clause_end-end.result c.loop-i.at c.if-end-at.false) in (
       omega (arith, there),
       omega (arith, c.loop-i.invariant.1),
@@ -155,18 +151,20 @@ loop-i-preserved c =
     )
 
 pub shape_of-marks-else-is_justified : goal.shape_of-marks-else-is_justified
-shape_of-marks-else-is_justified c = as_many (goal.at.shape_of-marks-else-is_justified c).After-is_justified ∙ c.clear.auto.0
+shape_of-marks-else-is_justified c = as_many (goal.at.shape_of-marks-else-is_justified c).After-is_justified ∙ c.clear.auto.marks
 
 pub returns-else-is_justified : goal.returns-else-is_justified
 returns-else-is_justified c =
     let here = step (goal.at.returns-else-is_justified c).After-is_justified false (eqb c.clause_end-end.result c.loop-i.at) c.if-is_justified.false refl in
-    found (take c.args.front c.args.store.now) (drop c.args.front c.args.store.now) c.args.hints.now (length c.clear.new.marks) (length c.args.marks.now) _ _ c.clear.auto.0 (as_many (goal.at.returns-else-is_justified c).After-is_justified)
-    (sym here ∙ c.loop-i.invariant.4)
+    let is = found (take c.args.front c.args.store.now) (drop c.args.front c.args.store.now) c.args.hints.now (length c.clear.new.marks) (length c.args.marks.now) _ _ c.clear.auto.marks (as_many (goal.at.returns-else-is_justified c).After-is_justified)
+    (sym here ∙ c.loop-i.invariant.4) in
+    record { answer = is.0; refuted = is.1.0; scratch = is.1.1 }
 
 pub shape_of-marks : goal.shape_of-marks
-shape_of-marks c = c.loop-i.invariant.2 ∙ c.clear.auto.0
+shape_of-marks c = c.loop-i.invariant.2 ∙ c.clear.auto.marks
 
 pub returns : goal.returns
 returns c =
-    found (take c.args.front c.args.store.now) (drop c.args.front c.args.store.now) c.args.hints.now (length c.clear.new.marks) (length c.args.marks.now) _ _ c.clear.auto.0 c.loop-i.invariant.2
-    (sym (checked-over (length c.clear.new.marks / 2) (take c.loop-i.at c.args.store.now) (clauses_in (drop c.loop-i.at c.args.store.now)) c.args.hints.now c.loop-i.i c.loop-i.lemma c.loop-i-test.false) ∙ c.loop-i.invariant.4)
+    let is = found (take c.args.front c.args.store.now) (drop c.args.front c.args.store.now) c.args.hints.now (length c.clear.new.marks) (length c.args.marks.now) _ _ c.clear.auto.marks c.loop-i.invariant.2
+    (sym (checked-over (length c.clear.new.marks / 2) (take c.loop-i.at c.args.store.now) (clauses_in (drop c.loop-i.at c.args.store.now)) c.args.hints.now c.loop-i.i c.loop-i.lemma c.loop-i-test.false) ∙ c.loop-i.invariant.4) in
+    record { answer = is.0; refuted = is.1.0; scratch = is.1.1 }

@@ -1,6 +1,5 @@
 -- `refutation_lemmas::clause_end` meets its contract. No end mark stands between the place asked for and the loop's.
 
-use Prim.Native.Nat.{◌-◌}
 use mathlib.Core.Path.{◌≡◌, refl, ◌∙◌}
 use native.Mathlib.Omega.{arith}
 use lib.IntN.{pos}
@@ -16,7 +15,7 @@ read : (c : After-slot) →
     c.slot.result ≡ slot_of (get_or c.args.store.now c.loop-i.i (pos 0))
 read c =
     c.slot.ensures
-    ∙ slot_read c.args.store.now c.loop-i.i c.slot-arg-1.given
+    ∙ slot_read c.args.store.now c.loop-i.i (omega arith)
 
 pub loop-i-init : goal.loop-i-init
 loop-i-init c = refl
@@ -28,7 +27,7 @@ pub returns-then-slot-eq0 : goal.returns-then-slot-eq0
 returns-then-slot-eq0 c =
     let store = c.args.store.now in
     let here = c.loop-i-test.true in
-    omega (arith, c.loop-i.invariant, ends_at store c.loop-i.i here (rw (read (goal.at.returns-then-slot-eq0 c).After-slot) c.loop-i c.if-slot-eq0.true))
+    omega (arith, c.loop-i.invariant, ends_at store c.loop-i.i here (rw (read (goal.at.returns-then-slot-eq0 c).After-slot) at c.if-slot-eq0.true))
 
 pub overflow_add-i : goal.overflow_add-i
 overflow_add-i c = omega arith
@@ -40,7 +39,7 @@ pub loop-i-preserved : goal.loop-i-preserved
 loop-i-preserved c =
     let store = c.args.store.now in
     let here = c.loop-i-test.true in
-    omega (arith, c.loop-i.invariant, goes_on store c.loop-i.i here (rw (read (goal.at.loop-i-preserved c).After-slot) c.loop-i c.if-slot-eq0.false))
+    omega (arith, c.loop-i.invariant, goes_on store c.loop-i.i here (rw (read (goal.at.loop-i-preserved c).After-slot) at c.if-slot-eq0.false))
 
 pub returns : goal.returns
 returns c =

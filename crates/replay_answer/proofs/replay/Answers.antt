@@ -7,7 +7,8 @@ use Rattle.replay_answer.proofs.replay.Goals as goal
 pub returns : goal.returns
 returns c =
     let read = c.read_answer-kind.ensures in
-    let told = c.replay.ensures in (
-      c.reply_of.ensures ∙ told.0 ∙ replay-is _ _ _ _ read _ _,
-      (told.1.0 ∙ memory-is _ _ _ _ read _ _, told.1.1.0 ∙ trace-is _ _ _ _ read _ _),
-    )
+    let told = c.replay.ensures in record {
+      answer = c.reply_of.ensures ∙ told.answer ∙ replay-is _ _ _ _ read _ _;
+      memory = told.memory ∙ memory-is _ _ _ _ read _ _;
+      trace = told.trace ∙ trace-is _ _ _ _ read _ _;
+    }

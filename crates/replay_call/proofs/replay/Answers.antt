@@ -16,7 +16,7 @@ use Rattle.replay_call.proofs.replay.Goals as goal
 pub returns-in-Refused : goal.returns-in-Refused
 unfolding replay_reply replay_sent replay_answer replay_memory replay_trace unless_refused trace_after outcome words_left
 returns-in-Refused c =
-    let v = sym c.test_replay.ensures ∙ c.in-Refused.is in (rw v, (rw v, (rw v, (faults-settled, table-suffices, one-run, room-enough, right_answer))))
+    let v = sym c.test_replay.ensures ∙ c.in-Refused.is in record { answer = rw v; memory = rw v; trace = rw v; settled = (faults-settled, table-suffices, one-run, room-enough, right_answer) }
 
 pub word_count-requires : goal.word_count-requires
 word_count-requires c =
@@ -33,13 +33,13 @@ pub returns-in-Malformed : goal.returns-in-Malformed
 unfolding net_of replay_reply replay_sent replay_answer replay_memory replay_trace unless_refused trace_after outcome words_left
 returns-in-Malformed c =
     let v = sym c.test_replay.ensures ∙ c.in_default.is in
-    let kind = c.in-Malformed.is in (rw (v, kind), (rw (v, kind, c.fill_words.ensures, c.word_count.ensures), (rw (v, kind), (faults-settled, table-suffices, one-run, room-enough, right_answer))))
+    let kind = c.in-Malformed.is in record { answer = rw (v, kind); memory = rw (v, kind, c.fill_words.ensures, c.word_count.ensures); trace = rw (v, kind); settled = (faults-settled, table-suffices, one-run, room-enough, right_answer) }
 
 pub returns-in-Unsatisfiable : goal.returns-in-Unsatisfiable
 unfolding replay_reply replay_sent replay_answer replay_memory replay_trace unless_refused trace_after outcome words_left
 returns-in-Unsatisfiable c =
     let v = sym c.test_replay.ensures ∙ c.in_default.is in
-    let kind = c.in-Unsatisfiable.is in (rw (v, kind), (rw (v, kind), (rw (v, kind), (faults-settled, table-suffices, one-run, room-enough, right_answer))))
+    let kind = c.in-Unsatisfiable.is in record { answer = rw (v, kind); memory = rw (v, kind); trace = rw (v, kind); settled = (faults-settled, table-suffices, one-run, room-enough, right_answer) }
 
 pub replay_values-requires : goal.replay_values-requires
 replay_values-requires c =
@@ -52,4 +52,4 @@ returns-in-Satisfiable c =
     let v = sym c.test_replay.ensures ∙ c.in_default.is in
     let kind = c.in-Satisfiable.is in
     let ran = c.replay_values.ensures in
-    (rw (v, kind, ran.answers), (rw (v, kind) ran.memory-left, (rw (v, kind) (ran.trace-left ∙ rw ran.answers), (faults-settled, table-suffices, one-run, room-enough, right_answer))))
+    record { answer = rw (v, kind, ran.answers); memory = rw (v, kind) ran.memory-left; trace = rw (v, kind) (ran.trace-left ∙ rw ran.answers); settled = (faults-settled, table-suffices, one-run, room-enough, right_answer) }

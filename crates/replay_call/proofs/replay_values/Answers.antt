@@ -30,7 +30,7 @@ word_count-requires c =
 pub fill_words-requires : goal.fill_words-requires
 unfolding net_of
 fill_words-requires c =
-    omega (arith, c.requires.memory-size, c.word_count.ensures, c.run-shown.auto.0)
+    omega (arith, c.requires.memory-size, c.word_count.ensures, c.run-shown.auto.memory)
 
 pub returns-then-shown : goal.returns-then-shown
 unfolding net_of
@@ -62,18 +62,18 @@ slice_bounds-lines-end c =
 pub slice_bounds-write_word-end : goal.slice_bounds-write_word-end
 unfolding net_of
 slice_bounds-write_word-end c =
-    let lines : List ℕ = c.run-shown.new.trace.0 in
+    let lines : List ℕ = c.run-shown.new.trace in
     let few : c.trace_length-length.result ≤ length lines
-    = omega (arith, c.run-shown.auto.1.0, c.no_lines-lines.ensures, c.trace_length-length.ensures, trace-small c.args.depth (last_wire (alone c.args.net)) c.requires.depth c.requires.accepted.limits.sizes.wires-fit)
+    = omega (arith, c.run-shown.auto.trace, c.no_lines-lines.ensures, c.trace_length-length.ensures, trace-small c.args.depth (last_wire (alone c.args.net)) c.requires.depth c.requires.accepted.limits.sizes.wires-fit)
     in
     sym (length-take-le c.trace_length-length.result lines few)
 
 pub write_word-requires : goal.write_word-requires
 unfolding net_of
 write_word-requires c =
-    let lines : List ℕ = c.run-shown.new.trace.0 in
+    let lines : List ℕ = c.run-shown.new.trace in
     let few : c.trace_length-length.result ≤ length lines
-    = omega (arith, c.run-shown.auto.1.0, c.no_lines-lines.ensures, c.trace_length-length.ensures, trace-small c.args.depth (last_wire (alone c.args.net)) c.requires.depth c.requires.accepted.limits.sizes.wires-fit)
+    = omega (arith, c.run-shown.auto.trace, c.no_lines-lines.ensures, c.trace_length-length.ensures, trace-small c.args.depth (last_wire (alone c.args.net)) c.requires.depth c.requires.accepted.limits.sizes.wires-fit)
     in
     omega (arith, length-take-le c.trace_length-length.result lines few, c.trace_length-length.ensures, c.requires.trace-size)
 

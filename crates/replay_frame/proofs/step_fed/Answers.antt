@@ -47,7 +47,7 @@ step_frame-next-requires c =
       limits = c.requires.accepted.limits;
       values-size = c.fill_word-filled.ensures.size;
       latch-size = c.requires.begins.latch-size;
-      memory-size = omega (arith, c.requires.begins.memory-size, c.fill_word-filled.auto.1.0);
+      memory-size = omega (arith, c.requires.begins.memory-size, c.fill_word-filled.auto.memory);
     }
 
 pub mark_touched-requires : goal.mark_touched-requires

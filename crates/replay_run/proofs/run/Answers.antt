@@ -96,9 +96,9 @@ loop-i-smaller c =
 pub loop-i-preserved : goal.loop-i-preserved
 unfolding net_of
 loop-i-preserved c =
-    through-next c.loop-i.invariant (omega (arith, c.loop-i-test.true)) c.run_frame-ran.ensures.done c.run_frame-ran.auto.1.1.1.1.0 c.run_frame-ran.ensures.line.0
-    (same_len_mid c.loop-i.at (length c.loop-i.trace - c.loop-i.at) c.loop-i.trace c.run_frame-ran.new.inputs.1.1.1.1.0 c.run_frame-ran.auto.1.1.1.1.1.0)
-    c.run_frame-ran.ensures.line.1 c.next_first-first.ensures (omega (arith, c.wire_count.ensures))
+    through-next c.loop-i.invariant (omega (arith, c.loop-i-test.true)) c.run_frame-ran.ensures.done c.run_frame-ran.auto.memory c.run_frame-ran.ensures.line
+    (same_len_mid c.loop-i.at (length c.loop-i.trace - c.loop-i.at) c.loop-i.trace c.run_frame-ran.new.out c.run_frame-ran.auto.out)
+    c.run_frame-ran.ensures.judged c.next_first-first.ensures (omega (arith, c.wire_count.ensures))
 
 pub returns : goal.returns
 unfolding net_of

@@ -21,10 +21,8 @@ unfolding net_of frame_line fed_unclear base
 returns c =
     let d = net_of c.args.net c.args.latches.now c.args.gates.now in
     let y = said_in c.args.signs.now in
-    let done = c.step_fed-stepped.ensures in (
-      done.0,
-      (
-        line-by c.requires.0.accepted.limits y c.args.i done.0.values-are c.put_line.ensures,
-        shown_by c.requires.0.accepted.limits y c.args.i done.0.values-are done.1 (record { fault-is = c.judge_frame-shown.ensures.fault-is; broken-is = c.judge_frame-shown.ensures.broken-is }),
-      ),
-    )
+    let stepped = c.step_fed-stepped.ensures in record {
+      done = stepped.done;
+      line = line-by c.requires.0.accepted.limits y c.args.i stepped.done.values-are c.put_line.ensures;
+      judged = shown_by c.requires.0.accepted.limits y c.args.i stepped.done.values-are stepped.filled (record { fault-is = c.judge_frame-shown.ensures.fault-is; broken-is = c.judge_frame-shown.ensures.broken-is });
+    }

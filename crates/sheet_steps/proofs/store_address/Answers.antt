@@ -12,7 +12,7 @@ use Rattle.sheet_steps.proofs.store_address.Goals as goal
 
 pub returns : goal.returns
 unfolding net_of stored
-returns c =
+returns c latches gates full =
     let b : c.args.t < length c.args.net.address = omega (arith, full.address-codes, c.requires) in
     record {
       full = full-kept full (simp length-set) refl refl;

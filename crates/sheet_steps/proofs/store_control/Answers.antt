@@ -8,4 +8,4 @@ use Rattle.sheet_steps.proofs.store_control.Goals as goal
 
 pub returns : goal.returns
 unfolding net_of stored
-returns c = record { full = full-kept full refl refl refl; net-is = refl }
+returns c latches gates full = record { full = full-kept full refl refl refl; net-is = refl }

@@ -8,7 +8,7 @@ use Rattle.sheet_steps.proofs.store_memory.Goals as goal
 
 pub returns : goal.returns
 unfolding net_of stored
-returns c =
+returns c latches gates full =
     record {
       full = full-kept full refl refl refl;
       net-is = rw c.second_port_of.ensures;

@@ -12,7 +12,7 @@ use Rattle.sheet_steps.proofs.store_second_address.Goals as goal
 
 pub returns : goal.returns
 unfolding net_of stored
-returns c =
+returns c latches gates full =
     let b : c.args.t < length c.args.net.address2 = omega (arith, full.second-codes, c.requires) in
     record {
       full = full-kept full refl refl (simp length-set);

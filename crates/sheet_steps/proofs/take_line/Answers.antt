@@ -21,12 +21,12 @@ due c =
 -- whether the line is out of order, in the record with its lists
 tested : (c : After-is_due) → (c.is_past_last.result || not c.is_due.result) ≡ out_of_order (net_of c.args.net c.args.latches.now c.args.gates.now) c.args.kind c.args.place
 unfolding net_of
-tested c = rw (c.is_past_last.ensures, c.is_due.ensures, due c⟨After-line_due⟩)
+tested c = rw (c.is_past_last.ensures, c.is_due.ensures, c.line_due-due.ensures ∙ line_at-lists c.args.net c.args.latches.now c.args.gates.now c.args.place)
 
 -- the line put into the record and the lists
-taken : (c : After-store-next) → Holds c.store-next.result c.store-next.new.latches.0 c.store-next.new.latches.1.0 (step_net (net_of c.args.net c.args.latches.now c.args.gates.now) c.args.kind c.args.first c.args.second c.args.third c.args.empty c.args.place)
+taken : (c : After-store-next) → Holds c.store-next.result c.store-next.new.latches c.store-next.new.gates (step_net (net_of c.args.net c.args.latches.now c.args.gates.now) c.args.kind c.args.first c.args.second c.args.third c.args.empty c.args.place)
 unfolding step_net
-taken c = rw (due c⟨After-line_due⟩) at c.store-next.ensures
+taken c = rw (c.line_due-due.ensures ∙ line_at-lists c.args.net c.args.latches.now c.args.gates.now c.args.place) at c.store-next.ensures
 
 pub returns-then-is_past_last-is_due : goal.returns-then-is_past_last-is_due
 returns-then-is_past_last-is_due c =
@@ -46,18 +46,21 @@ test_stored-verdict-requires c =
 
 -- the verdict on it, in the record with its lists
 judged : (c : After-test_stored-verdict) →
+    Holds c.store-next.result c.store-next.new.latches c.store-next.new.gates (step_net (net_of c.args.net c.args.latches.now c.args.gates.now) c.args.kind c.args.first c.args.second c.args.third c.args.empty c.args.place) →
+    c.line_due-due.result ≡ line_at (net_of c.args.net c.args.latches.now c.args.gates.now) c.args.place →
+    (c.is_past_last.result || not c.is_due.result) ≡ out_of_order (net_of c.args.net c.args.latches.now c.args.gates.now) c.args.kind c.args.place →
     c.test_stored-verdict.result ≡ step_verdict (net_of c.args.net c.args.latches.now c.args.gates.now) c.args.kind c.args.first c.args.second c.args.third c.args.empty c.args.place
-judged c =
+judged c stored line order =
     let d = net_of c.args.net c.args.latches.now c.args.gates.now in
     c.test_stored-verdict.ensures
-    ∙ rw ((taken c⟨After-store⟩).net-is, due c⟨After-line_due⟩)
-    (sym (step-due d c.args.kind c.args.place c.args.first c.args.second c.args.third c.args.empty (sym (tested c⟨After-is_due⟩) ∙ c.if-is_past_last-is_due.false)))
+    ∙ rw (stored.net-is, line)
+    (sym (step-due d c.args.kind c.args.place c.args.first c.args.second c.args.third c.args.empty (sym order ∙ c.if-is_past_last-is_due.false)))
 
 pub returns-in-Refused : goal.returns-in-Refused
 returns-in-Refused c =
-    rw c.refused-in-Refused.ensures (outcome-refused _ _ _ (sym (judged at) ∙ c.in-Refused.is))
+    rw c.refused-in-Refused.ensures (outcome-refused _ _ _ (sym (judged (goal.at.returns-in-Refused c).After-test_stored-verdict (taken (goal.at.returns-in-Refused c).After-store-next) (due (goal.at.returns-in-Refused c).After-line_due-due) (tested (goal.at.returns-in-Refused c).After-is_due)) ∙ c.in-Refused.is))
 
 pub returns : goal.returns
 returns c =
     rw c.in_default.is
-    (outcome-passed _ _ _ c.store-next.result (taken (goal.at.returns c).After-store-next) (sym (judged at) ∙ c.in_default.is))
+    (outcome-passed _ _ _ c.store-next.result (taken (goal.at.returns c).After-store-next) (sym (judged (goal.at.returns c).After-test_stored-verdict (taken (goal.at.returns c).After-store-next) (due (goal.at.returns c).After-line_due-due) (tested (goal.at.returns c).After-is_due)) ∙ c.in_default.is))

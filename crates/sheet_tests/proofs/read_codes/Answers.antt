@@ -17,8 +17,8 @@ passed : (c : In_default) → file_verdict c.args.file.now ≡ Passed
 passed c = sym (verdict-is c.test_file-sheet.ensures) ∙ c.in_default.is
 
 -- the record and the lists hold its netlist
-held : (c : In_default) → Holds c.test_file-sheet.result.net c.test_file-sheet.new.latches.0
-    c.test_file-sheet.new.latches.1.0 (net_in c.args.file.now)
+held : (c : In_default) → Holds c.test_file-sheet.result.net c.test_file-sheet.new.latches
+    c.test_file-sheet.new.gates (net_in c.args.file.now)
 held c = holds c.test_file-sheet.ensures (passed c)
 
 -- whether a list has too little room, by the record
@@ -26,7 +26,7 @@ short-held : (c : In_default) →
     let net = c.test_file-sheet.result.net in
     (ltb c.args.latch_room net.latches || ltb c.args.gate_room net.gates) ≡ short c.args.file.now c.args.latch_room c.args.gate_room
 short-held c =
-    let sizes = sizes-held c.test_file-sheet.result.net c.test_file-sheet.new.latches.0 c.test_file-sheet.new.latches.1.0 (held c) in
+    let sizes = sizes-held c.test_file-sheet.result.net c.test_file-sheet.new.latches c.test_file-sheet.new.gates (held c) in
     rw (sizes.0, sizes.1)
 
 pub returns-in-Refused : goal.returns-in-Refused

@@ -27,7 +27,7 @@ passed_lines c = sym (verdict-is c.read_lines-sheet.ensures) ∙ c.in_default.is
 ended : (c : After-test_end-ended) → c.test_end-ended.result ≡ end_verdict (net_in c.args.file.now) (line_count c.args.file.now)
 ended c =
     c.test_end-ended.ensures
-    ∙ end-latches c.read_lines-sheet.result.net c.read_lines-sheet.new.latches.0 c.read_lines-sheet.new.latches.1.0 (line_count c.args.file.now)
+    ∙ end-latches c.read_lines-sheet.result.net c.read_lines-sheet.new.latches c.read_lines-sheet.new.gates (line_count c.args.file.now)
     ∙ rw (holds c.read_lines-sheet.ensures (passed_lines c⟨After-enum_told2⟩)).net-is
 
 -- so they are the rest of the file's verdict
@@ -59,7 +59,7 @@ pub test_end-ended-requires : goal.test_end-ended-requires
 test_end-ended-requires c =
     let file = c.args.file.now in
     let passed = passed_lines (goal.at.test_end-ended-requires c).In_default in
-    (omega (arith, (whole-lines file (even (goal.at.test_end-ended-requires c).Else-is_ragged)).most), lines-passed file c.read_lines-sheet.result.net c.read_lines-sheet.new.latches.0 c.read_lines-sheet.new.latches.1.0 passed (holds c.read_lines-sheet.ensures passed).net-is)
+    (omega (arith, (whole-lines file (even (goal.at.test_end-ended-requires c).Else-is_ragged)).most), lines-passed file c.read_lines-sheet.result.net c.read_lines-sheet.new.latches c.read_lines-sheet.new.gates passed (holds c.read_lines-sheet.ensures passed).net-is)
 
 pub returns-in-Refused-ended : goal.returns-in-Refused-ended
 returns-in-Refused-ended c =
