@@ -1,5 +1,3 @@
 pub mod SheetReplies
 pub mod TextReplies
-pub mod NumbersCall
 pub mod Order
-pub mod TextCall

@@ -36,7 +36,7 @@ loop-progress-init c = record {
   so_far = rw (c.no_progress-progress.ensures, c.requires.1, c.requires.2) (starts c.args.file.now);
 }
 
-pub take_answer-progress-requires : goal.take_answer-progress-requires-clause-given
+pub take_answer-progress-requires : goal.take_answer-progress-requires
 take_answer-progress-requires c =
     let e = rw c.loop-progress.invariant.same_file at c.next_line-next.ensures.0 in
     asked c.args.file.now (whole-lines c.args.file.now c.requires.0) c.loop-progress.reader.line c.loop-progress.progress
