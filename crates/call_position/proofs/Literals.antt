@@ -127,5 +127,5 @@ module _ (c : M.Netlist) (p : Position) (x : ℕ) where
 
 -- so of any reply that is what is sent
 pub sent-negated : (c : M.Netlist) (p : Position) (x : ℕ) {r : LiteralReply} → r ≡ literal_sent c p x
-    → (r ≡ literal_sent c p x) × InverseNegated c p x r
-sent-negated c p x e = (e, subst (InverseNegated c p x) (sym e) (inverse-negated c p x))
+    → record { answer : r ≡ literal_sent c p x; inverse : InverseNegated c p x r }
+sent-negated c p x e = record { answer = e; inverse = subst (InverseNegated c p x) (sym e) (inverse-negated c p x) }

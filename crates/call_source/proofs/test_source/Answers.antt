@@ -48,7 +48,7 @@ returns-then-not-has_source c = sym (behind (goal.at.returns-then-not-has_source
 there : (c : Else-not-has_source) →
     IsPort (alone c.args.net) (port_in c.args.group)
 there c =
-    let h = rw (c.has_source.ensures, c.port_count.ensures) at (not-false c.has_source.result c.if-not-has_source.false) in
+    let h = rw (c.has_source.ensures, c.port_count.ensures) at c.if-not-has_source.false in
     let both = (and-true (in_depth (ports (alone c.args.net)) c.args.depth c.args.group) (leb 1 (port_in c.args.group))).0 h in
     port-there (alone c.args.net) c.args.depth c.args.group both.0 (leb-true 1 (port_in c.args.group) both.1)
 
@@ -60,14 +60,16 @@ last_wire-requires c = sizes (goal.at.last_wire-requires c).In_default
 
 -- only the test of RE is left
 left : (c : After-is_above) →
+    source_verdict (alone c.args.net) c.args.depth c.args.group
+    ≡ (refuse_if (not c.has_source.result) NoSuchGroup 0 then refuse_if (ltb (2 * last_wire (alone c.args.net) + 1) (port (alone c.args.net) (port_in c.args.group)).RE) CodeOutside 0) →
     source_verdict (alone c.args.net) c.args.depth c.args.group ≡ refuse_if c.is_above.result CodeOutside 0
 unfolding port_of ◌then◌
-left c =
-    rw (behind c⟨After-has_source⟩, c.if-not-has_source.false, c.is_above.ensures, c.last_wire.ensures, sym c.port_in.ensures)
+left c behind-it =
+    rw (behind-it, c.if-not-has_source.false, c.is_above.ensures, c.last_wire.ensures, sym c.port_in.ensures)
     (ap (λ p. refuse_if (ltb (2 * last_wire (alone c.args.net) + 1) p.RE) CodeOutside 0) (sym c.port_of.ensures))
 
 pub returns-then-is_above : goal.returns-then-is_above
-returns-then-is_above c = sym (left (goal.at.returns-then-is_above c).After-is_above ∙ rw c.if-is_above.true)
+returns-then-is_above c = sym (left (goal.at.returns-then-is_above c).After-is_above (behind (goal.at.returns-then-is_above c).After-has_source) ∙ rw c.if-is_above.true)
 
 pub returns : goal.returns
-returns c = sym (left (goal.at.returns c).After-is_above ∙ rw c.if-is_above.false)
+returns c = sym (left (goal.at.returns c).After-is_above (behind (goal.at.returns c).After-has_source) ∙ rw c.if-is_above.false)

@@ -19,7 +19,7 @@ told c = reply-tells c.read_depth-line.result.verdict (depth_verdict c.args.inpu
 
 -- it has passed
 depth-passed : (c : In_default) → depth_verdict c.args.input.now ≡ Passed
-depth-passed c = sym (told c⟨After-read_depth⟩) ∙ c.in_default.is
+depth-passed c = sym (reply-tells c.read_depth-line.result.verdict (depth_verdict c.args.input.now) c.read_depth-line.ensures.reply) ∙ c.in_default.is
 
 pub returns-in-Refused : goal.returns-in-Refused
 unfolding input_answer record_beside

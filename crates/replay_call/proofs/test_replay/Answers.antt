@@ -25,7 +25,6 @@ asked c = sym c.in_default.is ∙ c.test_depth-asked.ensures
 shown : (c : In_default) →
     SizesFit (alone c.args.net) × (c.args.depth ≤ 255)
 shown c =
-    let c.args = c.args in
     let ok = depth-shown _ _ _ _ (sym (asked c)) in
     (sizes-lists c.args.net c.args.latches.now c.args.gates.now [] [] ok.0.limits.sizes, ok.1)
 

@@ -28,12 +28,12 @@ ended : (c : After-test_end-ended) → c.test_end-ended.result ≡ end_verdict (
 ended c =
     c.test_end-ended.ensures
     ∙ end-latches c.read_lines-sheet.result.net c.read_lines-sheet.new.latches c.read_lines-sheet.new.gates (line_count c.args.file.now)
-    ∙ rw (holds c.read_lines-sheet.ensures (passed_lines c⟨After-enum_told2⟩)).net-is
+    ∙ rw (holds c.read_lines-sheet.ensures (sym (verdict-is c.read_lines-sheet.ensures) ∙ c.in_default.is)).net-is
 
 -- so they are the rest of the file's verdict
 file-ended : (c : After-test_end-ended) → file_verdict c.args.file.now ≡ c.test_end-ended.result
 file-ended c =
-    file-lines c.args.file.now (even c⟨Else1⟩) (passed_lines c⟨After-enum_told2⟩) ∙ sym (ended c)
+    file-lines c.args.file.now (sym c.is_ragged.ensures ∙ c.if-is_ragged.false) (sym (verdict-is c.read_lines-sheet.ensures) ∙ c.in_default.is) ∙ sym (ended c)
 
 pub returns-then-is_ragged : goal.returns-then-is_ragged
 returns-then-is_ragged c =
