@@ -3,18 +3,31 @@
 #![tactic(auto)]
 
 ghost use Rattle.std.specs.Prelude.{◌≡◌, true, false, length};
+ghost use Rattle.std.specs.Io.KnownBytes.{Appends};
 ghost use Rattle.program_one_port.specs.Printed.{one_port_output};
 
+use std::io::Write;
+
 // Writes to standard output all that is printed for a file, in one piece, once: nothing else writes there. The file is lent only for what is
-// asked of the text. Where writing fails, says so on standard error.
-fn write_text(file: &[u8], printed: &mut bool, text: &[u8])
+// asked of the text. Where writing fails, says so on standard error. Answers whether all is written.
+fn write_text<W: Write, E: Write>(
+    output: &mut W,
+    errors: &mut E,
+    file: &[u8],
+    printed: &mut bool,
+    text: &[u8],
+) -> bool
     requires { (text.now ≡ one_port_output file.now) × (printed.old ≡ false) }
-    ensures { printed.new ≡ true }
+    ensures printed { printed.new ≡ true }
+    ensures written { result ≡ true → Appends (W.contents output.old) (W.contents output.new) (one_port_output file.now) }
 {
     *printed = true;
-    if !io::write_all(1, text) {
-        io::write_all(2, b"one_port: writing failed, the output is not whole\n");
-    }
+    streams::write_or_say(
+        output,
+        errors,
+        text,
+        b"one_port: writing failed, the output is not whole\n",
+    )
 }
 
 // As many bytes as the longest sheet has.
@@ -24,20 +37,28 @@ fn no_sheet() -> [u8; 20064]
     [0; 20064]
 }
 
-// Prints what is due for a file.
-fn print_answer(file: &[u8], printed: &mut bool)
+// Prints what is due for a file, and answers whether all of it is written.
+fn print_answer<W: Write, E: Write>(
+    output: &mut W,
+    errors: &mut E,
+    file: &[u8],
+    printed: &mut bool,
+) -> bool
     requires { printed.old ≡ false }
-    ensures { printed.new ≡ true }
+    ensures printed { printed.new ≡ true }
+    ensures written { result ≡ true → Appends (W.contents output.old) (W.contents output.new) (one_port_output file.now) }
 {
     let mut sheet = no_sheet();
     let bytes = program_one_port::write_output(&mut sheet, file);
-    write_text(file, printed, &sheet[..bytes]);
+    write_text(output, errors, file, printed, &sheet[..bytes])
 }
 
 // One byte more than the longest sheet, so that a longer file is seen to be too long.
-fn main() {
+fn main(rt: HostRuntime) {
     let mut bytes = [0; 20065];
-    let count = io::read_full(0, &mut bytes);
+    let count = streams::read_full(&mut rt.stdin(), &mut bytes);
+    let mut output = rt.stdout();
+    let mut errors = rt.stderr();
     let mut printed = false;
-    print_answer(&bytes[..count], &mut printed);
+    print_answer(&mut output, &mut errors, &bytes[..count], &mut printed);
 }

@@ -64,7 +64,7 @@ returns-in-Refused c =
 
 pub text_sizes-sizes-requires : goal.text_sizes-sizes-requires
 text_sizes-sizes-requires c =
-    rw c.read_header-header.ensures.counts-are (fits-interface c.args.text.now c.args.m c.args.n c.args.second_port (text-passed c)).inputs-enough
+    rw c.read_header-header.ensures.counts-are (fits-interface c.args.text.now c.args.m c.args.n c.args.second_port (text-passed (goal.at.text_sizes-sizes-requires c).In_default)).inputs-enough
 
 pub returns-in-Refused-sized : goal.returns-in-Refused-sized
 returns-in-Refused-sized c =
@@ -74,14 +74,13 @@ returns-in-Refused-sized c =
     (text-passed (goal.at.returns-in-Refused-sized c).In_default) (sizes-judged (goal.at.returns-in-Refused-sized c).After-test_sizes-sized ∙ c.in-Refused-sized.is)))
 
 pub fill-net-requires : goal.fill-net-requires
-fill-net-requires c =
-    (
-      c.read_header-header.ensures,
-      ready c.args.text.now c.args.m c.args.n (imported_word c.args.word c.args.unknown) c.args.unknown c.args.second_port c.read_header-header.result.counts c.read_header-header.ensures.counts-are c.text_sizes-sizes.result (sizes-are (goal.at.fill-net-requires c).After-text_sizes-sizes)
-          (text-passed (goal.at.fill-net-requires c).In_default) (sizes-passed (goal.at.fill-net-requires c).In_default-sized),
-      c.requires.0,
-      c.requires.1,
-    )
+fill-net-requires c = (
+  c.read_header-header.ensures,
+  ready c.args.text.now c.args.m c.args.n (imported_word c.args.word c.args.unknown) c.args.unknown c.args.second_port c.read_header-header.result.counts c.read_header-header.ensures.counts-are c.text_sizes-sizes.result (sizes-are (goal.at.fill-net-requires c).After-text_sizes-sizes)
+      (text-passed (goal.at.fill-net-requires c).In_default) (sizes-passed (goal.at.fill-net-requires c).In_default-sized),
+  c.requires.0,
+  c.requires.1,
+)
 
 pub test_ports-port-requires : goal.test_ports-port-requires
 test_ports-port-requires c =

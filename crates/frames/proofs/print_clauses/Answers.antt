@@ -22,7 +22,7 @@ use Rattle.frames.proofs.print_clauses.Goals as goal
 use Rattle.frames.proofs.print_clauses.Goals.{After-print_groups-piece, In-Then}
 
 pub loop-next-init : goal.loop-next-init
-loop-next-init c =
+loop-next-init g c =
     let taken = c.requires.0 in
     let sizes = sizes-lists c.args.taken.net c.args.latches.now c.args.gates.now [] [] (rw taken.net-is taken.accepted.limits.sizes) in
     let ports-most : ports (alone c.args.taken.net) ≤ 2 = omega (arith, sizes.kind_fits) in (
@@ -39,9 +39,9 @@ so_far : (c : In-Then) →
 so_far c = rw c.in-Then.is at c.loop-next.invariant.3
 
 pub print_groups-piece-requires : goal.print_groups-piece-requires
-print_groups-piece-requires c =
+print_groups-piece-requires g c =
     let taken = c.requires.0 in
-    (rw taken.net-is taken.accepted, taken.depth-most, due-order_has (so_far (goal.at.print_groups-piece-requires c).In-Then).text-due, λ long. c.loop-next.invariant.2, omega (arith, c.loop-next.invariant.1), omega (arith, c.loop-next.invariant.0))
+    (rw taken.net-is taken.accepted, taken.depth-most, due-order_has (so_far (goal.at.print_groups-piece-requires g c).In-Then).text-due, λ long. c.loop-next.invariant.2, omega (arith, c.loop-next.invariant.1), omega (arith, c.loop-next.invariant.0))
 
 -- the text is within its buffer
 module _ (c : After-print_groups-piece) where
@@ -59,30 +59,30 @@ module _ (c : After-print_groups-piece) where
   continues = c.print_groups-piece.ensures.text _ (so_far c⟨After-known_told⟩).text-due
 
 pub slice_bounds-text-end : goal.slice_bounds-text-end
-slice_bounds-text-end c = within (goal.at.slice_bounds-text-end c).After-print_groups-piece
+slice_bounds-text-end g c = within (goal.at.slice_bounds-text-end g c).After-print_groups-piece
 
 pub slice_bounds-write_next-end : goal.slice_bounds-write_next-end
-slice_bounds-write_next-end c = sym (length-take-le _ _ (within (goal.at.slice_bounds-write_next-end c).After-print_groups-piece))
+slice_bounds-write_next-end g c = sym (length-take-le _ _ (within (goal.at.slice_bounds-write_next-end g c).After-print_groups-piece))
 
 pub write_next-requires : goal.write_next-requires
-write_next-requires c = (
-  piece-stands (so_far (goal.at.write_next-requires c).In-Then) (continues (goal.at.write_next-requires c).After-print_groups-piece),
-  omega (arith, c.loop-next.invariant.4, most (goal.at.write_next-requires c).After-print_groups-piece),
+write_next-requires g c = (
+  piece-stands (so_far (goal.at.write_next-requires g c).In-Then) (continues (goal.at.write_next-requires g c).After-print_groups-piece),
+  omega (arith, c.loop-next.invariant.4, most (goal.at.write_next-requires g c).After-print_groups-piece),
 )
 
 pub loop-next-smaller : goal.loop-next-smaller
-loop-next-smaller c = rw c.in-Then.is (omega (arith, c.print_groups-piece.ensures.ends.0))
+loop-next-smaller g c = rw c.in-Then.is (omega (arith, c.print_groups-piece.ensures.ends.0))
 
 pub loop-next-preserved : goal.loop-next-preserved
-loop-next-preserved c =
+loop-next-preserved g c =
     let sent = c.write_next.ensures in
     let fewer = c.print_groups-piece.ensures.ends.0 in (
       c.print_groups-piece.auto.0 ∙ c.loop-next.invariant.0,
       c.print_groups-piece.auto.1.0 ∙ c.loop-next.invariant.1,
       c.loop-next.invariant.2,
-      rw sent (piece-printed (so_far (goal.at.loop-next-preserved c).In-Then) (continues (goal.at.loop-next-preserved c).After-print_groups-piece)),
-      omega (arith, sent, rw c.in-Then.is at c.loop-next.invariant.4, fewer, most (goal.at.loop-next-preserved c).After-print_groups-piece),
+      rw sent (piece-printed (so_far (goal.at.loop-next-preserved g c).In-Then) (continues (goal.at.loop-next-preserved g c).After-print_groups-piece)),
+      omega (arith, sent, rw c.in-Then.is at c.loop-next.invariant.4, fewer, most (goal.at.loop-next-preserved g c).After-print_groups-piece),
     )
 
 pub returns : goal.returns
-returns c = all-printed (rw c.in_default.is at c.loop-next.invariant.3)
+returns g c = all-printed (rw c.in_default.is at c.loop-next.invariant.3)

@@ -16,10 +16,10 @@ use Rattle.frames.proofs.print_header.Goals as goal
 use Rattle.frames.proofs.print_header.Goals.{After-print_header-bytes}
 
 pub slice_bounds-text-end : goal.slice_bounds-text-end
-slice_bounds-text-end c = search rules
+slice_bounds-text-end g c = search rules
 
 pub print_header-bytes-requires : goal.print_header-bytes-requires
-print_header-bytes-requires c =
+print_header-bytes-requires g c =
     let taken = c.requires.0 in
     (rw taken.net-is taken.accepted, omega (arith, taken.depth-most), search rules)
 
@@ -30,16 +30,16 @@ counted c =
     omega (arith, ap length (wrote-front w.0), w.0.counted, w.1)
 
 pub slice_bounds-write_next-end : goal.slice_bounds-write_next-end
-slice_bounds-write_next-end c = sym (length-take-le _ _ (slice_bounds-text-end (goal.at.slice_bounds-write_next-end c).After-write_next-arg-2-1))
+slice_bounds-write_next-end g c = sym (length-take-le _ _ (slice_bounds-text-end g (goal.at.slice_bounds-write_next-end g c).After-write_next-arg-2-1))
 
 pub write_next-requires : goal.write_next-requires
-write_next-requires c =
+write_next-requires g c =
     let clauses = clause_text (formula (net_of c.args.taken.net c.args.latches.now c.args.gates.now) c.args.taken.depth) in (
       first-stands _ clauses (taken-frames c.requires.0 ∙ ap (λ (t : List ℕ). t ++ clauses) (sym (wrote-front c.print_header-bytes.ensures.0))) c.requires.1,
-      omega (arith, c.requires.1, counted (goal.at.write_next-requires c).After-print_header-bytes),
+      omega (arith, c.requires.1, counted (goal.at.write_next-requires g c).After-print_header-bytes),
     )
 
 pub returns : goal.returns
-returns c =
+returns g c =
     let sent = c.write_next.ensures in
-    (sent ∙ omega (arith, c.requires.1, ap length (wrote-front c.print_header-bytes.ensures.0)), omega (arith, sent, c.requires.1, counted (goal.at.returns c).After-print_header-bytes))
+    (sent ∙ omega (arith, c.requires.1, ap length (wrote-front c.print_header-bytes.ensures.0)), omega (arith, sent, c.requires.1, counted (goal.at.returns g c).After-print_header-bytes))

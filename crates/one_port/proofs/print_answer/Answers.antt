@@ -7,11 +7,11 @@ use borrow.Author.Rules.{rules}
 use Rattle.one_port.proofs.print_answer.Goals as goal
 
 pub slice_bounds-sheet-end : goal.slice_bounds-sheet-end
-slice_bounds-sheet-end c = search rules
+slice_bounds-sheet-end g c = search rules
 
 pub slice_bounds-write_text-end : goal.slice_bounds-write_text-end
-slice_bounds-write_text-end c = sym (length-take-le _ _ (slice_bounds-sheet-end (goal.at.slice_bounds-write_text-end c).After-write_text-arg-1))
+slice_bounds-write_text-end g c = sym (length-take-le _ _ (slice_bounds-sheet-end g (goal.at.slice_bounds-write_text-end g c).After-write_text-arg-1))
 
 pub write_text-requires : goal.write_text-requires
-write_text-requires c =
+write_text-requires g c =
     (wrote-front c.write_output-bytes.ensures.text, c.requires)

@@ -43,5 +43,5 @@ returns c =
     let decided = sheet-decides s (depth-passed (goal.at.returns c).In_default) in
     let depth = c.read_depth-line.ensures.depth in
     let read = rw (behind-depth s) at c.read_sheet.ensures in
-    let is : c.read_sheet.result ≡ input_answer s = read.0 ∙ rw (decided, depth) in
-    record { answer = is; taken = input-taken s _ _ _ is (rw decided read.1); refusals = only-refusals; encoded = λ none. input-encoded (input-taken s _ _ _ is (rw decided read.1) none) }
+    let is : c.read_sheet.result ≡ input_answer s = read.answer ∙ rw (decided, depth) in
+    record { answer = is; taken = input-taken s _ _ _ is (rw decided read.lists); refusals = only-refusals; encoded = λ none. input-encoded (input-taken s _ _ _ is (rw decided read.lists) none) }

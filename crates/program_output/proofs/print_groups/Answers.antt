@@ -85,7 +85,7 @@ followed : (c : After-next_group-next) →
     ≤ remaining_after (ports (alone c.args.net)) c.args.depth due)
 followed c =
     let e = rw c.port_count-ports.ensures at c.next_group-next.ensures in
-    (e.0, e.1.1)
+    (e.follows, e.ends)
 
 pub loop-bytes-smaller : goal.loop-bytes-smaller
 unfolding net_of
@@ -95,10 +95,10 @@ loop-bytes-smaller c =
 pub loop-bytes-preserved : goal.loop-bytes-preserved
 unfolding net_of
 loop-bytes-preserved c =
-    let same = same_len_mid c.loop-bytes.bytes (length c.loop-bytes.text - c.loop-bytes.bytes) c.loop-bytes.text c.print_group-bytes.new.text c.print_group-bytes.auto.0 in (
+    let same = same_len_mid c.loop-bytes.bytes (length c.loop-bytes.text - c.loop-bytes.bytes) c.loop-bytes.text c.print_group-bytes.new.text c.print_group-bytes.auto.text in (
       omega (arith, room (goal.at.loop-bytes-preserved c).In-Then, c.print_group-bytes.ensures.wrote.1, same),
       same ∙ c.loop-bytes.invariant.1,
-      c.print_group-bytes.auto.1.0 ∙ c.loop-bytes.invariant.2,
+      c.print_group-bytes.auto.numbers ∙ c.loop-bytes.invariant.2,
       λ before from o h.
           one_more before from o (rw c.in-Then.is at (c.loop-bytes.invariant.3 before from o h)) c.print_group-bytes.new.text c.print_group-bytes.result
           c.next_group-next.result c.print_group-bytes.ensures.wrote.0 (followed c).0,
@@ -112,7 +112,7 @@ loop-bytes-preserved c =
 pub returns-after-loop-bytes : goal.returns-after-loop-bytes
 unfolding net_of
 returns-after-loop-bytes c =
-    record { text = λ text d. piece-continues d (c.loop-bytes.invariant.3 d.before d.groups d.order d.next-is); ends = omega (arith, fewer (ports (alone c.args.net)) c.args.depth c.loop-bytes.bytes c.loop-bytes.next (Then c.args.group) c.loop-bytes.invariant.4 (omega arith)); within = (omega (arith, c.loop-bytes.invariant.0, c.loop-bytes.invariant.1), c.loop-bytes.invariant.2); scratch = search rules }
+    record { text = λ text d. piece-continues d (c.loop-bytes.invariant.3 d.before d.groups d.order d.next-is); ends = omega (arith, fewer (ports (alone c.args.net)) c.args.depth c.loop-bytes.bytes c.loop-bytes.next (Then c.args.group) c.loop-bytes.invariant.4 (omega arith)); within = omega (arith, c.loop-bytes.invariant.0, c.loop-bytes.invariant.1); scratch = c.loop-bytes.invariant.2 }
 
 pub returns-in_default : goal.returns-in_default
 unfolding net_of

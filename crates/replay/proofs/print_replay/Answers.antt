@@ -10,18 +10,18 @@ use Rattle.program_replay.proofs.Printed.{taken-replay}
 use Rattle.replay.proofs.print_replay.Goals as goal
 
 pub slice_bounds-text-end : goal.slice_bounds-text-end
-slice_bounds-text-end c = search rules
+slice_bounds-text-end g c = search rules
 
 pub write_replay-bytes-requires : goal.write_replay-bytes-requires
-write_replay-bytes-requires c =
+write_replay-bytes-requires g c =
     let taken = c.requires.0 in
     (rw taken.net-is taken.accepted, taken.depth-most, omega (arith, c.no_output-text.ensures))
 
 pub slice_bounds-write_text-end : goal.slice_bounds-write_text-end
-slice_bounds-write_text-end c = sym (length-take-le _ _ (slice_bounds-text-end (goal.at.slice_bounds-write_text-end c).After-write_text-arg-1))
+slice_bounds-write_text-end g c = sym (length-take-le _ _ (slice_bounds-text-end g (goal.at.slice_bounds-write_text-end g c).After-write_text-arg-1))
 
 pub write_text-requires : goal.write_text-requires
-write_text-requires c =
+write_text-requires g c =
     let some = c.requires.1 in
     let written = wrote-front (c.write_replay-bytes.ensures.text some.text some.holds) in (
       record {

@@ -6,4 +6,4 @@ use Rattle.model.proofs.Booleans.{and-true}
 use Rattle.replay.proofs.read_piece.Goals as goal
 
 pub returns : goal.returns
-returns c = (search rules, (search rules, λ h. let both = (and-true _ _).0 h in (eqb-true _ _ both.0, ltb-true _ _ both.1)))
+returns g c = (search rules, (search rules, λ h. let both = (and-true _ _).0 h in (eqb-true _ _ both.0, ltb-true _ _ both.1)))

@@ -13,49 +13,49 @@ use Rattle.replay.proofs.SomeText.{one_more}
 use Rattle.replay.proofs.scan_file.Goals as goal
 
 pub slice_bounds-piece-end : goal.slice_bounds-piece-end
-slice_bounds-piece-end c = search rules
+slice_bounds-piece-end g c = search rules
 
 pub loop-more-init : goal.loop-more-init
-loop-more-init c =
+loop-more-init g c =
     let started = c.scan_start-scan.ensures in
     let pre = c.requires in
     (sym c.large_buffer-piece.ensures, started.0, record { text = []; counted = sym pre.1; holds = started.1 _ pre.0 }, λ h. omega (arith, pre.1))
 
 pub slice_bounds-read_piece-end : goal.slice_bounds-read_piece-end
-slice_bounds-read_piece-end c = sym c.loop-more.invariant.0
+slice_bounds-read_piece-end g c = sym c.loop-more.invariant.0
 
 pub read_piece-bytes-requires : goal.read_piece-bytes-requires
-read_piece-bytes-requires c =
+read_piece-bytes-requires g c =
     let inv = c.loop-more.invariant in
     omega (arith, inv.0, inv.3 c.loop-more-test.true)
 
 pub slice_bounds-scan_bytes-end : goal.slice_bounds-scan_bytes-end
-slice_bounds-scan_bytes-end c = sym (length-take-le _ c.read_piece-bytes.new.piece.0 (slice_bounds-piece-end (goal.at.slice_bounds-scan_bytes-end c).After-scan_bytes-arg-1))
+slice_bounds-scan_bytes-end g c = sym (length-take-le _ c.read_piece-bytes.new.piece.0 (slice_bounds-piece-end g (goal.at.slice_bounds-scan_bytes-end g c).After-scan_bytes-arg-1))
 
 pub scan_bytes-requires : goal.scan_bytes-requires
-scan_bytes-requires c = c.loop-more.invariant.1
+scan_bytes-requires g c = c.loop-more.invariant.1
 
 pub returns-then-bytes-lt65536 : goal.returns-then-bytes-lt65536
-returns-then-bytes-lt65536 c =
+returns-then-bytes-lt65536 g c =
     let inv = c.loop-more.invariant in (
       c.scan_bytes.ensures.holds,
       (
-        one_more inv.2 c.scan_bytes.ensures.behind (omega (arith, c.read_piece-bytes.ensures.counted.0, slice_bounds-scan_bytes-end (goal.at.returns-then-bytes-lt65536 c).After-piece-then-bytes-lt65536-1)),
+        one_more inv.2 c.scan_bytes.ensures.behind (omega (arith, c.read_piece-bytes.ensures.counted.0, slice_bounds-scan_bytes-end g (goal.at.returns-then-bytes-lt65536 g c).After-piece-then-bytes-lt65536-1)),
         not-true-false _ (λ h. omega (arith, (c.read_piece-bytes.ensures.counted.1 h).0, c.read_piece-bytes.auto.1.0, inv.0, c.if-bytes-lt65536.true)),
       ),
     )
 
 pub slice_bounds-scan_bytes-end-in-loop-more : goal.slice_bounds-scan_bytes-end-in-loop-more
-slice_bounds-scan_bytes-end-in-loop-more c = sym (c.read_piece-bytes.auto.1.0 ∙ c.loop-more.invariant.0)
+slice_bounds-scan_bytes-end-in-loop-more g c = sym (c.read_piece-bytes.auto.1.0 ∙ c.loop-more.invariant.0)
 
 pub scan_bytes-scan-requires : goal.scan_bytes-scan-requires
-scan_bytes-scan-requires c = c.loop-more.invariant.1
+scan_bytes-scan-requires g c = c.loop-more.invariant.1
 
 pub loop-more-smaller : goal.loop-more-smaller
-loop-more-smaller c = omega (arith, c.read_piece-bytes.ensures.counted.0, c.if-bytes-lt65536.false, c.loop-more.invariant.3 c.loop-more-test.true)
+loop-more-smaller g c = omega (arith, c.read_piece-bytes.ensures.counted.0, c.if-bytes-lt65536.false, c.loop-more.invariant.3 c.loop-more-test.true)
 
 pub loop-more-preserved : goal.loop-more-preserved
-loop-more-preserved c =
+loop-more-preserved g c =
     let inv = c.loop-more.invariant in
     let full = c.read_piece-bytes.auto.1.0 ∙ inv.0 in (
       full,
@@ -65,6 +65,6 @@ loop-more-preserved c =
     )
 
 pub returns : goal.returns
-returns c =
+returns g c =
     let inv = c.loop-more.invariant in
     (inv.1, (inv.2, c.loop-more-test.false))

@@ -58,9 +58,9 @@ loop-progress-preserved c =
     record {
       same_file = ap (λ n. n.reader.file.now) c.next_line-next.ensures.0 ∙ c.loop-progress.invariant.same_file;
       so_far =
-        (turn c.args.file.now (whole-lines c.args.file.now c.requires.0) c.loop-progress.reader.line c.loop-progress.progress
-        c.loop-progress.latches c.loop-progress.gates c.loop-progress.invariant.so_far c.loop-progress-test.true
-        c.next_line-next.result.line c.next_line-next.result.reader.line (ap (λ n. n.line) e) (ap (λ n. n.reader.line) e)
-        c.take_answer-progress.result c.take_answer-progress.new.latches c.take_answer-progress.new.gates
-        c.take_answer-progress.ensures).0;
+          (turn c.args.file.now (whole-lines c.args.file.now c.requires.0) c.loop-progress.reader.line c.loop-progress.progress
+          c.loop-progress.latches c.loop-progress.gates c.loop-progress.invariant.so_far c.loop-progress-test.true
+          c.next_line-next.result.line c.next_line-next.result.reader.line (ap (λ n. n.line) e) (ap (λ n. n.reader.line) e)
+          c.take_answer-progress.result c.take_answer-progress.new.latches c.take_answer-progress.new.gates
+          c.take_answer-progress.ensures).0;
     }

@@ -52,7 +52,7 @@ unfolding gather
 loop-place-preserved c =
     let line = line_behind c.args.net c.args.latches.now c.args.gates.now in (
       omega arith,
-      same_len_mid c.loop-place.at (length c.loop-place.out - c.loop-place.at) c.loop-place.out c.put_line_at-at.new.out c.put_line_at-at.auto.0 ∙ c.loop-place.invariant.1,
+      same_len_mid c.loop-place.at (length c.loop-place.out - c.loop-place.at) c.loop-place.out c.put_line_at-at.new.out c.put_line_at-at.auto.out ∙ c.loop-place.invariant.1,
       omega (arith, c.loop-place.invariant.2, c.put_line_at-at.ensures.1),
       rw add-one
           (wrote_then (gather c.loop-place.place line) (line c.loop-place.place) c.args.out.now c.loop-place.out c.put_line_at-at.new.out c.loop-place.at c.put_line_at-at.result c.loop-place.invariant.3 c.put_line_at-at.ensures.0),

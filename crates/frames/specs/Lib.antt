@@ -1,0 +1,2 @@
+-- What the output holds of the text that `frames` writes. Nothing here imports a law or a proof.
+pub mod Written
