@@ -75,8 +75,7 @@ slice_bounds-write_next-end g c = sym (length-take-le _ _ (within g (goal.at.sli
 
 pub write_next-requires : goal.write_next-requires
 write_next-requires g c =
-    let there = (goal.at.write_next-requires g c).After-print_groups-piece in
-    (
+    let there = (goal.at.write_next-requires g c).After-print_groups-piece in (
       piece-stands (due g there) (continues g there),
       omega (arith, c.loop-next.invariant.4, most g there),
     )
