@@ -1,9 +1,10 @@
 -- Laws of specs/Written.antt: pieces written one behind the other. Cited by the functions of `frames` that print.
-use Rattle.std.proofs.Common.{◌≡◌, ℕ, ◌+◌, ◌-◌, ◌≤◌, Bool, List, [], ◌++◌, arith, length, take, drop, sym, ap, ◌∙◌, subst, take_all, take-append-drop}
+use Rattle.std.proofs.Common.{◌≡◌, ℕ, ◌+◌, ◌-◌, ◌≤◌, Bool, List, [], ◌++◌, arith, length, take, drop, sym, ap, ◌∙◌, subst, take_all}
 use lib.ListN.{length-drop}
+use lib.Seq.{take-append_seam}
 use Rattle.std.proofs.lemmas.List.{drop-drop}
 use Rattle.std.proofs.Math.Seq.{take-add}
-use Rattle.std.proofs.KnownBytes.{Appends-nil, Appends-trans}
+use Rattle.std.proofs.KnownBytes.{Appends-trans}
 use Rattle.std.specs.declared.option.Option.{Option}
 use Rattle.std.specs.Io.KnownBytes.{Appends}
 use Rattle.frames.specs.Written.{Written}
@@ -18,6 +19,10 @@ written-then f g h a b c xs ys all first second e last =
     let behind = second last in
     let before = first behind.0 in
     (before.0, subst (Appends a c) e (Appends-trans a b c xs ys before.1 behind.1))
+
+-- a text begins with a part
+pub begins : (whole part front behind : List ℕ) (n : ℕ) → whole ≡ front ++ behind → part ≡ front → n ≡ length part → part ≡ take n whole
+begins whole part front behind n e same h = rw (e, same, h, same) (sym (take-append_seam front behind))
 
 -- the bytes of a text from one place to another
 abbrev pub between : ℕ → ℕ → List ℕ → List ℕ

@@ -2,7 +2,7 @@
 -- that of the groups behind it is due. Each piece leaves fewer groups, so the loop ends; and no piece is longer than its buffer, so the count fits.
 
 use Prim.Native.Nat.{◌≤◌}
-use mathlib.Core.Path.{◌≡◌, sym, ◌∙◌}
+use mathlib.Core.Path.{◌≡◌, sym, ◌∙◌, subst}
 use native.Mathlib.Omega.{arith}
 use borrow.Author.Rules.{rules}
 use mathlib.Core.List.{[]}
@@ -18,6 +18,10 @@ use Rattle.program_output.specs.Printed.{frames_text}
 use Rattle.program_output.specs.Pieces.{Continues}
 use Rattle.program_output.proofs.Pieces.{due-order_has}
 use Rattle.program_output.proofs.Printed.{taken-frames, PrintedSo, header-printed, piece-stands, piece-printed, all-printed}
+use Rattle.std.specs.Io.KnownBytes.{Appends}
+use Rattle.std.proofs.KnownBytes.{Appends-nil}
+use Rattle.frames.proofs.Written.{written-as, written-then, nothing-between, between-more, between-all}
+use Rattle.frames.proofs.print_clauses.Given.{Over}
 use Rattle.frames.proofs.print_clauses.Goals as goal
 use Rattle.frames.proofs.print_clauses.Goals.{After-print_groups-piece, In-Then}
 
@@ -31,20 +35,22 @@ loop-next-init g c =
       filled-table _ _ (search rules) c.fill_table.ensures,
       header-printed (taken-frames taken) c.requires.1 (c.first_group-next.ensures _),
       omega (arith, c.requires.2, first-remaining (ports (alone c.args.taken.net)) c.args.taken.depth c.first_group-next.result ports-most taken.depth-most (c.first_group-next.ensures _)),
+      search rules,
+      λ last. (last, subst (Appends _ _) (sym (nothing-between _ _)) (Appends-nil _)),
     )
 
 -- the group that comes next is due
-so_far : (c : In-Then) →
+so_far : (g : Over) (c : In-Then g) →
     PrintedSo (frames_text c.args.input.now) (net_of c.args.taken.net c.args.latches.now c.args.gates.now) c.args.taken.depth c.loop-next.sent (Then c.in-Then.group)
-so_far c = rw c.in-Then.is at c.loop-next.invariant.3
+so_far g c = rw c.in-Then.is at c.loop-next.invariant.3
 
 pub print_groups-piece-requires : goal.print_groups-piece-requires
 print_groups-piece-requires g c =
     let taken = c.requires.0 in
-    (rw taken.net-is taken.accepted, taken.depth-most, due-order_has (so_far (goal.at.print_groups-piece-requires g c).In-Then).text-due, λ long. c.loop-next.invariant.2, omega (arith, c.loop-next.invariant.1), omega (arith, c.loop-next.invariant.0))
+    (rw taken.net-is taken.accepted, taken.depth-most, due-order_has (so_far g (goal.at.print_groups-piece-requires g c).In-Then).text-due, λ long. c.loop-next.invariant.2, omega (arith, c.loop-next.invariant.1), omega (arith, c.loop-next.invariant.0))
 
 -- the text is within its buffer
-module _ (c : After-print_groups-piece) where
+module _ (g : Over) (c : After-print_groups-piece g) where
   within : c.print_groups-piece.result.bytes ≤ length c.print_groups-piece.new.text
   within = omega (arith, c.print_groups-piece.ensures.ends.1.0, c.print_groups-piece.auto.0)
 
@@ -55,34 +61,44 @@ module _ (c : After-print_groups-piece) where
       omega (arith, counted, c.print_groups-piece.ensures.ends.1.0, c.loop-next.invariant.0)
 
   -- and the piece is the text that is next
-  continues : Continues (net_of c.args.taken.net c.args.latches.now c.args.gates.now) c.args.taken.depth (so_far c⟨After-known_told⟩).due c.print_groups-piece.new.text c.print_groups-piece.result
-  continues = c.print_groups-piece.ensures.text _ (so_far c⟨After-known_told⟩).text-due
+  due : PrintedSo (frames_text c.args.input.now) (net_of c.args.taken.net c.args.latches.now c.args.gates.now) c.args.taken.depth c.loop-next.sent (Then c.in-Then.group)
+  due = rw c.in-Then.is at c.loop-next.invariant.3
+
+  continues : Continues (net_of c.args.taken.net c.args.latches.now c.args.gates.now) c.args.taken.depth due.due c.print_groups-piece.new.text c.print_groups-piece.result
+  continues = c.print_groups-piece.ensures.text _ due.text-due
 
 pub slice_bounds-text-end : goal.slice_bounds-text-end
-slice_bounds-text-end g c = within (goal.at.slice_bounds-text-end g c).After-print_groups-piece
+slice_bounds-text-end g c = within g (goal.at.slice_bounds-text-end g c).After-print_groups-piece
 
 pub slice_bounds-write_next-end : goal.slice_bounds-write_next-end
-slice_bounds-write_next-end g c = sym (length-take-le _ _ (within (goal.at.slice_bounds-write_next-end g c).After-print_groups-piece))
+slice_bounds-write_next-end g c = sym (length-take-le _ _ (within g (goal.at.slice_bounds-write_next-end g c).After-print_groups-piece))
 
 pub write_next-requires : goal.write_next-requires
-write_next-requires g c = (
-  piece-stands (so_far (goal.at.write_next-requires g c).In-Then) (continues (goal.at.write_next-requires g c).After-print_groups-piece),
-  omega (arith, c.loop-next.invariant.4, most (goal.at.write_next-requires g c).After-print_groups-piece),
-)
+write_next-requires g c =
+    let there = (goal.at.write_next-requires g c).After-print_groups-piece in (
+      piece-stands (due g there) (continues g there),
+      omega (arith, c.loop-next.invariant.4, most g there),
+    )
 
 pub loop-next-smaller : goal.loop-next-smaller
 loop-next-smaller g c = rw c.in-Then.is (omega (arith, c.print_groups-piece.ensures.ends.0))
 
 pub loop-next-preserved : goal.loop-next-preserved
 loop-next-preserved g c =
-    let sent = c.write_next.ensures in
-    let fewer = c.print_groups-piece.ensures.ends.0 in (
+    let there = (goal.at.loop-next-preserved g c).After-print_groups-piece in
+    let sent = c.write_next.ensures.sent in
+    let fewer = c.print_groups-piece.ensures.ends.0 in
+    let stands = piece-stands (due g there) (continues g there) in (
       c.print_groups-piece.auto.0 ∙ c.loop-next.invariant.0,
       c.print_groups-piece.auto.1.0 ∙ c.loop-next.invariant.1,
       c.loop-next.invariant.2,
-      rw sent (piece-printed (so_far (goal.at.loop-next-preserved g c).In-Then) (continues (goal.at.loop-next-preserved g c).After-print_groups-piece)),
-      omega (arith, sent, rw c.in-Then.is at c.loop-next.invariant.4, fewer, most (goal.at.loop-next-preserved g c).After-print_groups-piece),
+      rw sent (piece-printed (due g there) (continues g there)),
+      omega (arith, sent, rw c.in-Then.is at c.loop-next.invariant.4, fewer, most g there),
+      omega (arith, sent, c.loop-next.invariant.5),
+      rw sent (written-then _ _ _ _ _ _ _ _ _ c.loop-next.invariant.6 (written-as _ _ _ _ _ _ c.write_next.ensures.written stands) (between-more _ _ _ _ c.loop-next.invariant.5)),
     )
 
 pub returns : goal.returns
-returns g c = all-printed (rw c.in_default.is at c.loop-next.invariant.3)
+returns g c =
+    let all = all-printed (rw c.in_default.is at c.loop-next.invariant.3) in
+    record { sent = all; written = written-as _ _ _ _ _ _ c.loop-next.invariant.6 (between-all _ _ _ all) }

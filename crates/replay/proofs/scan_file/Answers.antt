@@ -1,7 +1,6 @@
 -- `replay::scan_file` meets its contract. The loop's invariant: the scan is behind a text of as many bytes as were read. Each full piece leaves fewer
 -- that can be read, so the loop ends.
 
-use Prim.Native.Nat.{◌-◌}
 use mathlib.Core.Path.{sym, ◌∙◌}
 use mathlib.Core.Bool.{true}
 use mathlib.Core.List.{[]}
@@ -19,7 +18,7 @@ pub loop-more-init : goal.loop-more-init
 loop-more-init g c =
     let started = c.scan_start-scan.ensures in
     let pre = c.requires in
-    (sym c.large_buffer-piece.ensures, started.0, record { text = []; counted = sym pre.1; holds = started.1 _ pre.0 }, λ h. omega (arith, pre.1))
+    (sym c.no_piece-piece.ensures, started.0, record { text = []; counted = sym pre.1; holds = started.1 _ pre.0 }, λ h. omega (arith, pre.1))
 
 pub slice_bounds-read_piece-end : goal.slice_bounds-read_piece-end
 slice_bounds-read_piece-end g c = sym c.loop-more.invariant.0
