@@ -37,7 +37,7 @@ note_sums() {
   rt version > "$rooms/kit"
 }
 key_of() { # edit, crate
-  { cat "$rooms/kit" "$1"; awk -v crate="$2" 'FNR == NR { if ($1 == crate) for (k = 2; k <= NF; k++) wanted[$k]; next } $1 in wanted' "$rooms/below" "$rooms/sums"; } |
+  { cat "$rooms/kit"; grep -v '^#' "$1"; awk -v crate="$2" 'FNR == NR { if ($1 == crate) for (k = 2; k <= NF; k++) wanted[$k]; next } $1 in wanted' "$rooms/below" "$rooms/sums"; } |
     sha256sum | cut -d ' ' -f 1
 }
 

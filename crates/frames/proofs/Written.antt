@@ -1,10 +1,10 @@
 -- Laws of specs/Written.antt: pieces written one behind the other. Cited by the functions of `frames` that print.
-use Rattle.std.proofs.Common.{◌≡◌, ℕ, ◌+◌, ◌-◌, ◌≤◌, Bool, List, [], ◌++◌, arith, length, take, drop, sym, ap, ◌∙◌, subst, take_all, take-append-drop}
+use Rattle.std.proofs.Common.{◌≡◌, ℕ, ◌+◌, ◌-◌, ◌≤◌, Bool, List, [], ◌++◌, arith, length, take, drop, sym, ap, ◌∙◌, subst, take_all}
 use lib.ListN.{length-drop}
 use lib.Seq.{take-append_seam}
 use Rattle.std.proofs.lemmas.List.{drop-drop}
 use Rattle.std.proofs.Math.Seq.{take-add}
-use Rattle.std.proofs.KnownBytes.{Appends-nil, Appends-trans}
+use Rattle.std.proofs.KnownBytes.{Appends-trans}
 use Rattle.std.specs.declared.option.Option.{Option}
 use Rattle.std.specs.Io.KnownBytes.{Appends}
 use Rattle.frames.specs.Written.{Written}

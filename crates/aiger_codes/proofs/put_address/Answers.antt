@@ -1,6 +1,5 @@
 -- `aiger_codes::put_address` meets its contract. The loop's invariant: t codes are in the record, and nothing else has changed.
 
-use Prim.Native.Nat.{◌-◌}
 use mathlib.Core.Path.{◌≡◌, refl, ap}
 use native.Mathlib.Omega.{arith}
 use lib.ListN.{set}

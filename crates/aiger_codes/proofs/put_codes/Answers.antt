@@ -1,6 +1,6 @@
 -- `aiger_codes::put_codes` meets its contract. The loop's invariant: x lines are read, and their codes are in the list.
 
-use Prim.Native.Nat.{ℕ, ◌+◌, ◌-◌}
+use Prim.Native.Nat.{ℕ, ◌+◌}
 use mathlib.Core.Path.{◌≡◌, sym, subst}
 use native.Mathlib.Omega.{arith}
 use Rattle.aiger_lines.specs.Steps.{Behind}

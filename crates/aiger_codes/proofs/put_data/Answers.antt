@@ -1,6 +1,6 @@
 -- `aiger_codes::put_data` meets its contract. The loop's invariant: t codes are in the record, and nothing else has changed.
 
-use Prim.Native.Nat.{◌+◌, ◌-◌}
+use Prim.Native.Nat.{◌+◌}
 use mathlib.Core.Path.{◌≡◌, refl, ◌∙◌, ap}
 use native.Mathlib.Omega.{arith}
 use lib.ListN.{set}

@@ -1,6 +1,6 @@
 -- `aiger_codes::put_firsts` meets its contract. The loop's invariant: x lines are read, and their first numbers are in the table.
 
-use Prim.Native.Nat.{ℕ, ◌+◌, ◌-◌}
+use Prim.Native.Nat.{ℕ, ◌+◌}
 use mathlib.Core.Path.{◌≡◌, refl, sym, subst}
 use native.Mathlib.Omega.{arith}
 use Rattle.aiger_lines.specs.Steps.{Behind}

@@ -1,6 +1,5 @@
 -- `aiger_codes::wire_of` meets its contract. The loop's invariant: no wire before w has the variable.
 
-use Prim.Native.Nat.{◌-◌}
 use native.Mathlib.Omega.{arith}
 use Rattle.aiger_codes.proofs.WireTable.{found_at, not-before-next}
 use Rattle.aiger_codes.proofs.wire_of.Goals as goal

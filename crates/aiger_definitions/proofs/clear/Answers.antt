@@ -1,6 +1,5 @@
 -- `aiger_definitions::clear` meets its contract. The loop's invariant: the first i entries are no marks.
 
-use Prim.Native.Nat.{◌-◌}
 use mathlib.Core.Path.{refl}
 use native.Mathlib.Omega.{arith}
 use borrow.Author.Rules.{rules}

@@ -1,6 +1,5 @@
 -- `aiger_definitions::first_fault` meets its contract. The loop's invariant: no variable below the block has a fault before the first that was found.
 
-use Prim.Native.Nat.{◌-◌}
 use mathlib.Core.Path.{sym, ◌∙◌}
 use native.Mathlib.Omega.{arith}
 use Rattle.aiger_definitions.specs.Blocks.{fault_of}

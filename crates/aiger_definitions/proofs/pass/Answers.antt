@@ -1,6 +1,6 @@
 -- `aiger_definitions::pass` meets its contract. The loop's invariant: the lines passed were looked at, and the next begins at `at`.
 
-use Prim.Native.Nat.{◌+◌, ◌-◌, ◌<◌}
+use Prim.Native.Nat.{◌+◌, ◌<◌}
 use mathlib.Core.Path.{◌≡◌, refl, ◌∙◌}
 use native.Mathlib.Omega.{arith}
 use lib.ListN.{length}

@@ -1,6 +1,5 @@
 -- `aiger_export::first_reset` meets its contract. The loop's invariant: none of the first l latches has reset 1.
 
-use Prim.Native.Nat.{◌-◌}
 use mathlib.Core.Path.{◌≡◌}
 use mathlib.Core.Bool.{false}
 use native.Mathlib.Nat.{not-suc-le-zero}

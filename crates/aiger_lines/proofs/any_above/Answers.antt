@@ -1,11 +1,7 @@
 -- `aiger_lines::any_above` meets its contract. The loop's invariant: the numbers from i on have one above the limit where all have.
 
-use Prim.Native.Nat.{◌-◌, ◌≤◌}
-use mathlib.Core.Path.{◌≡◌, refl, sym, ◌∙◌}
+use mathlib.Core.Path.{refl, sym, ◌∙◌}
 use native.Mathlib.Omega.{arith}
-use borrow.Author.Rules.{rules}
-use lib.ListN.{drop}
-use Rattle.aiger_lines.specs.Parts.{any_above}
 use Rattle.aiger_lines.specs.Steps.{numbers_held}
 use Rattle.aiger_lines.proofs.FirstFive.{in-length, in-at}
 use Rattle.aiger_lines.proofs.Parts.{above-here, above-later, above-none}

@@ -1,7 +1,6 @@
 -- `aiger_lines::counts_of` meets its contract.
 
 use mathlib.Core.Path.{sym}
-use borrow.Author.Rules.{rules}
 use Rattle.aiger_lines.proofs.Parts.{counts-five, counts-other}
 use Rattle.aiger_lines.proofs.counts_of.Goals as goal
 

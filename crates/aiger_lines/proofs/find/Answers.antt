@@ -1,10 +1,7 @@
 -- `aiger_lines::find` meets its contract. The loop's invariant: the byte stands as far behind i as is still to be found.
 
-use Prim.Native.Nat.{◌+◌, ◌-◌, ◌≤◌}
-use mathlib.Core.Path.{◌≡◌, refl}
+use mathlib.Core.Path.{refl}
 use native.Mathlib.Omega.{arith}
-use lib.ListN.{length, drop}
-use Rattle.aiger_lines.specs.Steps.{span_to}
 use Rattle.aiger_lines.proofs.Steps.{span-here, span-later, span_none}
 use Rattle.aiger_lines.proofs.find.Goals as goal
 

@@ -2,7 +2,6 @@
 
 use mathlib.Core.Path.{sym}
 use native.Mathlib.Omega.{arith}
-use borrow.Author.Rules.{rules}
 use lib.Seq.{length-take-le}
 use Rattle.aiger_lines.proofs.Lines.{first_found, first-missing}
 use Rattle.aiger_lines.proofs.first_line.Goals as goal

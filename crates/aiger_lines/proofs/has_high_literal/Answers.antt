@@ -1,7 +1,6 @@
 -- `aiger_lines::has_high_literal` meets its contract.
 
 use native.Mathlib.Omega.{arith}
-use borrow.Author.Rules.{rules}
 use borrow.Author.Tests.{lt-ltb, le-ltb}
 use Rattle.aiger_lines.specs.Parts.{width}
 use Rattle.aiger_lines.proofs.has_high_literal.Goals as goal

@@ -1,7 +1,6 @@
 -- `aiger_lines::is_aag` meets its contract.
 
 use mathlib.Core.Path.{sym}
-use borrow.Author.Rules.{rules}
 use Rattle.aiger_lines.proofs.Parts.{aag-third, aag-byte, aag-length}
 use Rattle.aiger_lines.proofs.is_aag.Goals as goal
 

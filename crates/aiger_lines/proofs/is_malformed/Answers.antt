@@ -5,7 +5,6 @@ use mathlib.Core.Bool.{◌&&◌}
 use Prim.Native.Nat.{ℕ}
 use lib.ListN.{length}
 use native.Mathlib.Omega.{arith}
-use borrow.Author.Rules.{rules}
 use Rattle.aiger_lines.specs.Parts.{width, defines, not_definable}
 use Rattle.aiger_lines.specs.Steps.{numbers_held}
 use Rattle.aiger_lines.proofs.FirstFive.{in-length, in-at}

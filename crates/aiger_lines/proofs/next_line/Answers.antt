@@ -1,7 +1,6 @@
 -- `aiger_lines::next_line` meets its contract: a line feed is found, or there is none.
 
 use native.Mathlib.Omega.{arith}
-use borrow.Author.Rules.{rules}
 use Rattle.aiger_lines.proofs.Lines.{next-found, next-missing}
 use Rattle.aiger_lines.proofs.next_line.Goals as goal
 

@@ -1,7 +1,6 @@
 -- `aiger_lines::part_at` meets its contract: the places where the parts begin, one after the other.
 
 use native.Mathlib.Omega.{arith}
-use borrow.Author.Rules.{rules}
 use borrow.Author.Tests.{lt-ltb, le-ltb}
 use Rattle.aiger_lines.specs.Parts.{text_input_line, text_latch_line, text_output_line, text_gate_line, part_at}
 use Rattle.aiger_lines.proofs.part_at.Goals as goal

@@ -1,7 +1,6 @@
 -- `aiger_lines::read_header` meets its contract.
 
 use mathlib.Core.Path.{◌∙◌}
-use borrow.Author.Rules.{rules}
 use Rattle.aiger_lines.proofs.Lines.{read-holds, counts-read}
 use Rattle.aiger_lines.proofs.read_header.Goals as goal
 

@@ -1,11 +1,7 @@
 -- `aiger_lines::sound_lines` meets its contract. The loop's invariant is `SoundSoFar`.
 
 use Prim.Native.Nat.{◌-◌}
-use mathlib.Core.Path.{◌≡◌, sym, ap, ◌∙◌}
-use native.Mathlib.Omega.{arith}
-use borrow.Author.Rules.{rules}
-use Rattle.aiger_lines.specs.Parts.{lines_due}
-use Rattle.aiger_lines.proofs.Lines.{read-holds, header-malformed, line-malformed, SoundSoFar, none-sound, sound-starts, sound-next, sound-stops, sound-ends}
+use Rattle.aiger_lines.proofs.Lines.{SoundSoFar}
 use Rattle.aiger_lines.proofs.sound_lines.Given as goal
 
 abbrev pub invariant-loop-line : goal.invariant-loop-line

@@ -1,6 +1,5 @@
 -- `answer_lines::same_text` meets its contract. The loop's invariant: the texts are the same if what is left of them is.
 
-use Prim.Native.Nat.{◌-◌}
 use mathlib.Core.Path.{refl, sym, ◌∙◌}
 use native.Mathlib.Omega.{arith}
 use Rattle.answer_lines.proofs.Texts.{same_end, same-differ, same_step, same-lengths}

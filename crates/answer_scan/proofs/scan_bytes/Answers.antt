@@ -1,6 +1,5 @@
 -- `answer_scan::scan_bytes` meets its contract. The loop's invariant: the first i bytes are taken.
 
-use Prim.Native.Nat.{◌-◌}
 use mathlib.Core.Path.{◌≡◌, refl, sym}
 use mathlib.Core.List.{[], ◌∷◌}
 use native.Mathlib.Numerals.{add-one}

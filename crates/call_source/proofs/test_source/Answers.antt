@@ -4,7 +4,7 @@ use Prim.Native.Nat.{◌+◌, ◌*◌}
 use mathlib.Core.Path.{◌≡◌, sym, ◌∙◌, ap}
 use mathlib.Core.Bool.{not}
 use lib.Dec.{leb, ltb}
-use borrow.Author.Tests.{leb-true, not-false}
+use borrow.Author.Tests.{leb-true}
 use Rattle.model.specs.Netlist.{IsPort, port, ports, last_wire}
 use Rattle.model.specs.Groups.{in_depth}
 use Rattle.model.specs.Acceptance.{SizesFit}

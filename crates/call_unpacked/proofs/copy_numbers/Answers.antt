@@ -1,6 +1,5 @@
 -- `call_unpacked::copy_numbers` meets its contract. The loop's invariant: the first i numbers stand before what was there.
 
-use Prim.Native.Nat.{◌-◌}
 use mathlib.Core.Path.{◌≡◌, refl, ◌∙◌}
 use mathlib.Core.List.{List}
 use native.Mathlib.Numerals.{add-one}

@@ -1,6 +1,5 @@
 -- `circuit_step::put_latches` meets its contract. The loop's invariant: the first l latches are stepped.
 
-use Prim.Native.Nat.{◌-◌}
 use mathlib.Core.Path.{◌≡◌}
 use native.Mathlib.Omega.{arith}
 use lib.ListN.{length-set}

@@ -1,6 +1,5 @@
 -- `circuit_values::address_of` meets its contract. The loop's invariant: the first t bits make the number.
 
-use Prim.Native.Nat.{◌-◌}
 use mathlib.Core.Path.{◌≡◌}
 use native.Mathlib.Omega.{arith}
 use Rattle.model.specs.Circuit.{code_value, address_of}

@@ -1,6 +1,5 @@
 -- `circuit_values::put_bits` meets its contract. The loop's invariant: the table has the first t bits.
 
-use Prim.Native.Nat.{◌-◌}
 use mathlib.Core.Path.{◌≡◌, refl}
 use native.Mathlib.Omega.{arith}
 use Rattle.model.specs.Bits.{odd, bit}

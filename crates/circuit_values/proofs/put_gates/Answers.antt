@@ -1,6 +1,5 @@
 -- `circuit_values::put_gates` meets its contract. The loop's invariant: the table has every wire before gate g.
 
-use Prim.Native.Nat.{◌-◌}
 use mathlib.Core.Path.{◌≡◌}
 use mathlib.Core.List.{[]}
 use native.Mathlib.Omega.{arith}

@@ -1,6 +1,5 @@
 -- `circuit_values::put_sources` meets its contract. The loop's invariant: the table has the first x values.
 
-use Prim.Native.Nat.{◌-◌}
 use mathlib.Core.Path.{◌≡◌, refl}
 use native.Mathlib.Omega.{arith}
 use Rattle.circuit_values.proofs.WireTable.{grown-none, grown-next}

@@ -1,6 +1,5 @@
 -- `circuit_values::word_written` meets its contract. The loop's invariant: the first t bits make the number.
 
-use Prim.Native.Nat.{◌-◌}
 use mathlib.Core.Path.{◌≡◌}
 use native.Mathlib.Omega.{arith}
 use Rattle.model.specs.Circuit.{code_value, word_written}

@@ -5,7 +5,6 @@ use mathlib.Core.List.{[], ◌∷◌}
 use native.Mathlib.Omega.{arith}
 use Rattle.literals.specs.Lit.{literal_of}
 use Rattle.clause_writer.proofs.Wrote.{wrote_then, begun-ended, end-most, kept-three}
-use borrow.Author.Rules.{rules}
 use Rattle.clause_writer.proofs.put_last_three.Goals as goal
 
 pub returns : goal.returns

@@ -2,12 +2,8 @@
 
 use Prim.Native.Nat.{◌≤◌, ◌<◌, ◌-◌, ◌^◌}
 use mathlib.Core.Path.{◌≡◌}
-use native.Mathlib.Nat.{le_antisymm, pow-suc}
-use native.Mathlib.Numerals.{add-one}
-use native.Mathlib.Omega.{arith}
 use lib.ListN.{length}
 use Rattle.decimal.specs.Digits.{digits}
-use Rattle.decimal.proofs.Digits.{length-digits-some, length-digits-ten, length-digits-most, length-digits-least}
 use Rattle.decimal.proofs.digit_count.Given as goal
 
 abbrev pub invariant-loop-power : goal.invariant-loop-power

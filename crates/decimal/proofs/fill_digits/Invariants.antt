@@ -1,16 +1,12 @@
 -- `decimal::fill_digits` meets its contract. The loop's invariant: the digits of `rest`, which are still to be written before `at`, with
 -- everything else as it is, are the digits of x at the end of what was there.
 
-use Prim.Native.Nat.{ℕ, ◌+◌, ◌-◌, ◌/◌, ◌%◌, ◌≤◌}
-use mathlib.Core.Path.{◌≡◌, refl, sym, ap, ◌∙◌}
-use mathlib.Core.List.{List, [], ◌∷◌, ◌++◌}
-use native.Mathlib.Omega.{arith}
-use borrow.Author.Rules.{rules}
-use lib.ListN.{length, length-append, set, length-set}
-use Rattle.decimal.specs.Digits.{digit, digits}
+use Prim.Native.Nat.{◌+◌, ◌≤◌}
+use mathlib.Core.Path.{◌≡◌}
+use lib.ListN.{length}
+use Rattle.decimal.specs.Digits.{digits}
 use Rattle.decimal.specs.WroteAtEnd.{at_end}
-use Rattle.decimal.proofs.Digits.{digits-single, digits-snoc, length-digits-some}
-use Rattle.decimal.proofs.WroteAtEnd.{ending_at, ending_at-end, ending_at-nothing, ending_at-write}
+use Rattle.decimal.proofs.WroteAtEnd.{ending_at}
 use Rattle.decimal.proofs.fill_digits.Given as goal
 
 abbrev pub invariant-loop-rest : goal.invariant-loop-rest

@@ -1,11 +1,10 @@
 -- `decimal::put_spaces` meets its contract. The loop's invariant: i spaces stand before what was there.
 
-use Prim.Native.Nat.{ℕ, ◌-◌, ◌≤◌}
+use Prim.Native.Nat.{ℕ}
 use mathlib.Core.Path.{◌≡◌, ap, sym, ◌∙◌}
 use mathlib.Core.List.{List, ◌++◌}
 use native.Mathlib.Omega.{arith}
 use borrow.Author.Fill.{fill_none, fill_more}
-use borrow.Author.Rules.{rules}
 use lib.ListN.{length, drop, replicate, set, length-set, length-replicate}
 use Rattle.decimal.specs.Digits.{space}
 use Rattle.decimal.proofs.put_spaces.Goals as goal

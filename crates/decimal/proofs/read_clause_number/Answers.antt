@@ -2,7 +2,6 @@
 
 use mathlib.Core.Path.{sym, ◌∙◌}
 use native.Mathlib.Omega.{arith}
-use borrow.Author.Rules.{rules}
 use Rattle.decimal.proofs.SignedValue.{clause_number_in-empty, clause_number_in-minus-other, clause_number_in-minus, clause_number_in-unsigned-other, clause_number_in-unsigned, value-unique, value_none, unsigned_is, opposite-fits, opposite-is}
 use Rattle.decimal.proofs.read_clause_number.Goals as goal
 

@@ -1,7 +1,7 @@
 -- `decimal::read_number` meets its contract. The loop's invariant: the value taken in so far has at most i digits, and with the
 -- rest of the text it makes the value, and the test for digits, of the whole.
 
-use Prim.Native.Nat.{ℕ, ◌-◌, ◌^◌, ◌≤◌, ◌<◌}
+use Prim.Native.Nat.{ℕ, ◌≤◌, ◌<◌}
 use mathlib.Core.Path.{◌≡◌, refl, sym, ap, ◌∙◌}
 use mathlib.Core.Bool.{true, false}
 use mathlib.Core.List.{List}

@@ -1,6 +1,6 @@
 -- `dimacs::clauses_fit` meets its contract. The loop's invariant: what remains, and the text of the first i numbers, are the room.
 
-use Prim.Native.Nat.{ℕ, ◌+◌, ◌-◌}
+use Prim.Native.Nat.{ℕ, ◌+◌}
 use mathlib.Core.Path.{◌≡◌, ap, sym, ◌∙◌}
 use mathlib.Core.List.{List, [], ◌∷◌}
 use native.Mathlib.Nat.{add-zero}

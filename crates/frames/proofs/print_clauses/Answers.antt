@@ -2,7 +2,7 @@
 -- that of the groups behind it is due. Each piece leaves fewer groups, so the loop ends; and no piece is longer than its buffer, so the count fits.
 
 use Prim.Native.Nat.{◌≤◌}
-use mathlib.Core.Path.{◌≡◌, sym, ap, ◌∙◌, subst}
+use mathlib.Core.Path.{◌≡◌, sym, ◌∙◌, subst}
 use native.Mathlib.Omega.{arith}
 use borrow.Author.Rules.{rules}
 use mathlib.Core.List.{[]}
@@ -75,8 +75,7 @@ slice_bounds-write_next-end g c = sym (length-take-le _ _ (within g (goal.at.sli
 
 pub write_next-requires : goal.write_next-requires
 write_next-requires g c =
-    let there = (goal.at.write_next-requires g c).After-print_groups-piece in
-    (
+    let there = (goal.at.write_next-requires g c).After-print_groups-piece in (
       piece-stands (due g there) (continues g there),
       omega (arith, c.loop-next.invariant.4, most g there),
     )

@@ -35,8 +35,7 @@ slice_bounds-write_next-end g c = sym (length-take-le _ _ (slice_bounds-text-end
 
 pub write_next-requires : goal.write_next-requires
 write_next-requires g c =
-    let there = (goal.at.write_next-requires g c).After-write_refusal-bytes in
-    (
+    let there = (goal.at.write_next-requires g c).After-write_refusal-bytes in (
       first-stands _ _ (c.requires.0 ∙ sym (front g there) ∙ sym (append-nil _)) c.requires.1,
       omega (arith, c.requires.1, counted g there, ap length (front g there), c.write_refusal-bytes.ensures.counted),
     )

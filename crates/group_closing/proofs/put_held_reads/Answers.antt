@@ -1,6 +1,5 @@
 -- `group_closing::put_held_reads` meets its contract. The loop has written the bits passed.
 
-use Prim.Native.Nat.{◌-◌}
 use mathlib.Core.Path.{◌∙◌, ap}
 use native.Mathlib.Omega.{arith}
 use borrow.Author.Rules.{rules}

@@ -1,6 +1,6 @@
 -- `group_closing::put_sources` meets its contract. The loop has written S of the frames passed.
 
-use Prim.Native.Nat.{◌+◌, ◌-◌}
+use Prim.Native.Nat.{◌+◌}
 use native.Mathlib.Omega.{arith}
 use borrow.Author.Rules.{rules}
 use Rattle.netlist.specs.NetOf.{net_of, alone}

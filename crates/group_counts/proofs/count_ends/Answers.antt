@@ -1,6 +1,5 @@
 -- `group_counts::count_ends` meets its contract. The loop has counted the end marks passed.
 
-use Prim.Native.Nat.{◌-◌}
 use mathlib.Core.Path.{◌≡◌, refl, ◌∙◌, ap}
 use mathlib.Core.List.{List, [], ◌∷◌}
 use native.Mathlib.Numerals.{add-one}

@@ -1,6 +1,5 @@
 -- `group_latches::put_latches` meets its contract. The loop has written the latches passed.
 
-use Prim.Native.Nat.{◌-◌}
 use mathlib.Core.List.{[]}
 use native.Mathlib.Omega.{arith}
 use borrow.Author.Rules.{rules}

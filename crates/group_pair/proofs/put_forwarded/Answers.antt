@@ -1,6 +1,5 @@
 -- `group_pair::put_forwarded` meets its contract. The loop has written the bits passed.
 
-use Prim.Native.Nat.{◌-◌}
 use native.Mathlib.Omega.{arith}
 use borrow.Author.Rules.{rules}
 use Rattle.netlist.specs.NetOf.{code_of, net_of}

@@ -1,6 +1,5 @@
 -- `group_pair_address::put_address_bits` meets its contract. The loop has written the bits passed.
 
-use Prim.Native.Nat.{◌-◌}
 use native.Mathlib.Omega.{arith}
 use borrow.Author.Rules.{rules}
 use Rattle.model.proofs.Ports.{first-port}

@@ -1,6 +1,5 @@
 -- `group_property::put_violations` meets its contract. The loop has written the frames passed.
 
-use Prim.Native.Nat.{◌-◌}
 use native.Mathlib.Omega.{arith}
 use borrow.Author.Rules.{rules}
 use Rattle.model.specs.Variables.{base}

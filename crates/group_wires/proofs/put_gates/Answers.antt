@@ -1,6 +1,5 @@
 -- `group_wires::put_gates` meets its contract. The loop has written the gates passed.
 
-use Prim.Native.Nat.{◌-◌}
 use mathlib.Core.List.{[]}
 use native.Mathlib.Omega.{arith}
 use borrow.Author.Rules.{rules}

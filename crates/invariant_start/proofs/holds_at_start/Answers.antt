@@ -1,6 +1,5 @@
 -- `invariant_start::holds_at_start` meets its contract. What is left of the test says what the whole says.
 
-use Prim.Native.Nat.{◌-◌}
 use mathlib.Core.Path.{sym, ◌∙◌}
 use native.Mathlib.Omega.{arith}
 use lib.IntN.{pos}

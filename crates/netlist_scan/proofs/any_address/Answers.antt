@@ -1,6 +1,5 @@
 -- `netlist_scan::any_address` meets its contract. The loop's invariant: what was found is what the first t codes have.
 
-use Prim.Native.Nat.{◌-◌}
 use mathlib.Core.Path.{◌≡◌}
 use mathlib.Core.Bool.{false}
 use native.Mathlib.Omega.{arith}

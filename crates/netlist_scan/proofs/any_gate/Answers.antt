@@ -1,7 +1,6 @@
 -- `netlist_scan::any_gate` meets its contract. The loop's invariant: what was found is what the first g gates have, and gate g's own wire
 -- is known.
 
-use Prim.Native.Nat.{◌-◌}
 use mathlib.Core.Path.{◌≡◌}
 use mathlib.Core.Bool.{false}
 use native.Mathlib.Omega.{arith}

@@ -1,6 +1,5 @@
 -- `netlist_tests::any_dependent` meets its contract. The loop's invariant: what was found is what the first t address codes have.
 
-use Prim.Native.Nat.{◌-◌}
 use mathlib.Core.Path.{◌≡◌}
 use mathlib.Core.Bool.{false}
 use native.Mathlib.Omega.{arith}

@@ -1,6 +1,6 @@
 -- `netlist_tests::depends_on_read` meets its contract. The loop's invariant: the table has the sweep over the first g gates.
 
-use Prim.Native.Nat.{◌+◌, ◌-◌, ◌/◌, ◌<◌}
+use Prim.Native.Nat.{◌+◌, ◌/◌, ◌<◌}
 use mathlib.Core.Path.{◌≡◌, refl, ap}
 use mathlib.Core.List.{[]}
 use native.Mathlib.Omega.{arith}

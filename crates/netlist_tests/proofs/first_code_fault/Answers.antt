@@ -1,6 +1,6 @@
 -- `netlist_tests::first_code_fault` meets its contract. The loop's invariant: the lines up to the place have no code outside its limit.
 
-use Prim.Native.Nat.{◌+◌, ◌-◌}
+use Prim.Native.Nat.{◌+◌}
 use mathlib.Core.Path.{◌≡◌, refl, sym, ◌∙◌, ap}
 use native.Mathlib.Omega.{arith}
 use Rattle.refusals.specs.Tests.{in_order}

@@ -1,6 +1,5 @@
 -- `netlist_tests::first_tie` meets its contract. The loop's invariant: none of the first t codes is tied.
 
-use Prim.Native.Nat.{◌-◌}
 use mathlib.Core.Path.{◌≡◌, sym, ◌∙◌}
 use mathlib.Core.Bool.{false}
 use native.Mathlib.Nat.{not-suc-le-zero}

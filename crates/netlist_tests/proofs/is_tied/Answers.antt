@@ -1,6 +1,5 @@
 -- `netlist_tests::is_tied` meets its contract. The loop's invariant: what was found is whether the wire is that of one of the first s codes.
 
-use Prim.Native.Nat.{◌-◌}
 use mathlib.Core.Path.{◌≡◌}
 use mathlib.Core.Bool.{false}
 use native.Mathlib.Omega.{arith}

@@ -1,6 +1,5 @@
 -- `netlist_tests::read_bits` meets its contract. The loop's invariant: the table has the wires from the first read bit up to w.
 
-use Prim.Native.Nat.{◌-◌}
 use mathlib.Core.Bool.{true}
 use native.Mathlib.Omega.{arith}
 use Rattle.netlist.specs.NetOf.{net_of, alone}

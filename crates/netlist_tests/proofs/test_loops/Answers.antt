@@ -1,11 +1,10 @@
 -- `netlist_tests::test_loops` meets its contract. Where the pass over the lists finds nothing, no line makes a memory loop. The loop's
 -- invariant: the lines up to the place make none. It starts before the address codes, and no line before them does.
 
-use Prim.Native.Nat.{◌+◌, ◌-◌}
+use Prim.Native.Nat.{◌+◌}
 use mathlib.Core.Path.{◌≡◌, sym, ◌∙◌, ap}
 use mathlib.Core.List.{[]}
 use native.Mathlib.Omega.{arith}
-use borrow.Author.Tests.{not-true}
 use Rattle.refusals.specs.declared.Refusal.TheVariants.{MemoryLoop}
 use Rattle.netlist.specs.NetOf.{net_of, alone}
 use Rattle.netlist.specs.Places.{line_at}

@@ -1,6 +1,6 @@
 -- `program_import::line_count` meets its contract. The loop has counted the line feeds passed.
 
-use Prim.Native.Nat.{ℕ, ◌-◌}
+use Prim.Native.Nat.{ℕ}
 use mathlib.Core.Path.{refl, ◌∙◌, ap}
 use mathlib.Core.List.{List}
 use native.Mathlib.Numerals.{add-one}

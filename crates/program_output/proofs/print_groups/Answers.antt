@@ -112,7 +112,7 @@ loop-bytes-preserved c =
 pub returns-after-loop-bytes : goal.returns-after-loop-bytes
 unfolding net_of
 returns-after-loop-bytes c =
-    record { text = λ text d. piece-continues d (c.loop-bytes.invariant.3 d.before d.groups d.order d.next-is); ends = omega (arith, fewer (ports (alone c.args.net)) c.args.depth c.loop-bytes.bytes c.loop-bytes.next (Then c.args.group) c.loop-bytes.invariant.4 (omega arith)); within = (omega (arith, c.loop-bytes.invariant.0, c.loop-bytes.invariant.1), c.loop-bytes.invariant.2); scratch = c.loop-bytes.invariant.2 }
+    record { text = λ text d. piece-continues d (c.loop-bytes.invariant.3 d.before d.groups d.order d.next-is); ends = omega (arith, fewer (ports (alone c.args.net)) c.args.depth c.loop-bytes.bytes c.loop-bytes.next (Then c.args.group) c.loop-bytes.invariant.4 (omega arith)); within = omega (arith, c.loop-bytes.invariant.0, c.loop-bytes.invariant.1); scratch = c.loop-bytes.invariant.2 }
 
 pub returns-in_default : goal.returns-in_default
 unfolding net_of

@@ -1,7 +1,7 @@
 -- `program_output::print_groups` meets its contract. The loop's invariant: wherever the first group stands, what is printed is the text of
 -- the groups from it on, `next` comes after them, and nothing is printed yet or fewer groups remain.
 
-use Prim.Native.Nat.{ℕ, ◌+◌, ◌-◌, ◌≤◌, ◌<◌}
+use Prim.Native.Nat.{ℕ, ◌≤◌, ◌<◌}
 use mathlib.Core.Path.{◌≡◌}
 use mathlib.Core.List.{List, ◌++◌}
 use mathlib.Core.Logic.{◌⊎◌}

@@ -51,14 +51,14 @@ returns c =
           c.requires.0 c.requires.1 lent (rw (words, lent) at (c.replay_read-reply.ensures.answer text t)) (rw words at (c.replay_read-reply.ensures.trace text t)) c.trace_bytes-bytes.ensures.bytes in
           subst (λ (x : List ℕ). Wrote x c.args.out.now c.write_both.new.out c.write_both.result) printed c.write_both.ensures;
       most =
-        omega (
-          arith,
-          c.write_both.ensures.counted,
-          length-append (take c.write_answer-first.result c.write_answer-first.new.out) (take c.trace_bytes-bytes.result lines),
-          slice_bounds-write_both-end (goal.at.returns c).After-line-3-1,
-          slice_bounds-write_both-end-2 (goal.at.returns c).After-trace-3-1,
-          c.write_answer-first.ensures.most,
-          c.trace_bytes-bytes.ensures.most,
-        );
+          omega (
+            arith,
+            c.write_both.ensures.counted,
+            length-append (take c.write_answer-first.result c.write_answer-first.new.out) (take c.trace_bytes-bytes.result lines),
+            slice_bounds-write_both-end (goal.at.returns c).After-line-3-1,
+            slice_bounds-write_both-end-2 (goal.at.returns c).After-trace-3-1,
+            c.write_answer-first.ensures.most,
+            c.trace_bytes-bytes.ensures.most,
+          );
       room = room-suffices;
     }

@@ -1,7 +1,7 @@
 -- `refutation_formula::put_formula` meets its contract. The loop's invariant: the groups before the one that is next are put, and with as many numbers as
 -- a group has at most for each that remains, the count fits.
 
-use Prim.Native.Nat.{◌+◌, ◌≤◌}
+use Prim.Native.Nat.{◌≤◌}
 use mathlib.Core.Path.{◌≡◌, ◌∙◌}
 use mathlib.Core.List.{List, [], ◌∷◌, ◌++◌}
 use native.Mathlib.Omega.{arith}

@@ -1,6 +1,5 @@
 -- `replay_frame::any_unclear` meets its contract. The loop's invariant: what was found is of the first x variables.
 
-use Prim.Native.Nat.{◌-◌}
 use mathlib.Core.Path.{◌≡◌}
 use mathlib.Core.Bool.{false}
 use native.Mathlib.Omega.{arith}

@@ -1,6 +1,6 @@
 -- `replay_frame::put_line` meets its contract. The loop's invariant: the digits of the first w wires stand before what was there.
 
-use Prim.Native.Nat.{◌+◌, ◌-◌}
+use Prim.Native.Nat.{◌+◌}
 use mathlib.Core.Path.{◌≡◌, refl, sym, ◌∙◌, ap}
 use native.Mathlib.Numerals.{add-one}
 use native.Mathlib.Omega.{arith}

@@ -1,6 +1,5 @@
 -- `replay_frame::put_values` meets its contract. The loop's invariant: the table has the first x values.
 
-use Prim.Native.Nat.{◌-◌}
 use mathlib.Core.Path.{◌≡◌}
 use native.Mathlib.Omega.{arith}
 use lib.ListN.{length-set}

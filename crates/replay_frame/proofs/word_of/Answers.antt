@@ -1,6 +1,5 @@
 -- `replay_frame::word_of` meets its contract. The loop's invariant: the first t bits make the word.
 
-use Prim.Native.Nat.{◌-◌}
 use mathlib.Core.Path.{◌≡◌}
 use native.Mathlib.Omega.{arith}
 use Rattle.model.proofs.Bits.{from_bits-below}

@@ -1,6 +1,5 @@
 -- `replay_run::fill_words` meets its contract. The loop's invariant: the first x words are filled.
 
-use Prim.Native.Nat.{◌-◌}
 use mathlib.Core.Path.{◌≡◌, refl, sym}
 use native.Mathlib.Numerals.{add-one}
 use native.Mathlib.Omega.{arith}

@@ -1,6 +1,5 @@
 -- `replay_run::put_resets` meets its contract. The loop's invariant: the first l latches are at their reset.
 
-use Prim.Native.Nat.{◌-◌}
 use mathlib.Core.Path.{◌≡◌, refl}
 use native.Mathlib.Omega.{arith}
 use lib.ListN.{length-set}

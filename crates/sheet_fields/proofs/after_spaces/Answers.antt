@@ -1,13 +1,12 @@
 -- `sheet_fields::after_spaces` meets its contract. The loop's invariant: what is behind the spaces from i on is what is behind those of
 -- the whole.
 
-use Prim.Native.Nat.{ℕ, ◌-◌, ◌≤◌}
+use Prim.Native.Nat.{ℕ, ◌-◌}
 use mathlib.Core.Path.{◌≡◌, refl, sym, ◌∙◌}
 use mathlib.Core.List.{List}
 use native.Mathlib.Omega.{arith}
 use lib.ListN.{length, take, drop, length-drop}
 use lib.Seq.{take_all}
-use Rattle.sheet_fields.specs.Fields.{drop_spaces}
 use Rattle.sheet_fields.proofs.Fields.{drop_spaces-space, drop_spaces-other, drop_spaces-end}
 use Rattle.sheet_fields.proofs.after_spaces.Goals as goal
 

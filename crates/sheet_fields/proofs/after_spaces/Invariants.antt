@@ -1,14 +1,10 @@
 -- `sheet_fields::after_spaces` meets its contract. The loop's invariant: what is behind the spaces from i on is what is behind those of
 -- the whole.
 
-use Prim.Native.Nat.{ℕ, ◌-◌, ◌≤◌}
-use mathlib.Core.Path.{◌≡◌, refl, sym, ◌∙◌}
-use mathlib.Core.List.{List}
-use native.Mathlib.Omega.{arith}
-use lib.ListN.{length, take, drop, length-drop}
-use lib.Seq.{take_all}
+use Prim.Native.Nat.{◌-◌, ◌≤◌}
+use mathlib.Core.Path.{◌≡◌}
+use lib.ListN.{length, drop}
 use Rattle.sheet_fields.specs.Fields.{drop_spaces}
-use Rattle.sheet_fields.proofs.Fields.{drop_spaces-space, drop_spaces-other, drop_spaces-end}
 use Rattle.sheet_fields.proofs.after_spaces.Given as goal
 
 abbrev pub invariant-loop-i : goal.invariant-loop-i

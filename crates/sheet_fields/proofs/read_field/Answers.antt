@@ -2,7 +2,6 @@
 
 use mathlib.Core.Path.{sym, ap, ◌∙◌}
 use native.Mathlib.Omega.{arith}
-use borrow.Author.Rules.{rules}
 use Rattle.sheet_fields.specs.Fields.{filled_with}
 use Rattle.sheet_fields.proofs.Fields.{field_of-none, field_of-some}
 use Rattle.sheet_fields.proofs.read_field.Goals as goal

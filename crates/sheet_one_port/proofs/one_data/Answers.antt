@@ -1,6 +1,5 @@
 -- `sheet_one_port::one_data` meets its contract. The loop has renumbered the write-data codes up to t.
 
-use Prim.Native.Nat.{◌-◌}
 use native.Mathlib.Omega.{arith}
 use Rattle.model.specs.OnePort.{one_code}
 use Rattle.netlist.specs.NetOf.{code_of}

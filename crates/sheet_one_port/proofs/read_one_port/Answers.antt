@@ -35,36 +35,36 @@ module _ (c : In_default) where
   sizes = sizes-lists _ _ _ [] [] (subst SizesFit (sym (holds c.read_codes-sheet.ensures read-passed).net-is) limits.sizes)
 
 pub test_second-used-requires : goal.test_second-used-requires
-test_second-used-requires c = sizes (goal.at.test_second-used-requires c).After-read_codes-sheet
+test_second-used-requires c = sizes (goal.at.test_second-used-requires c).In_default
 
 pub returns-in-Refused-used : goal.returns-in-Refused-used
 returns-in-Refused-used c =
     let file = c.args.file.now in
-    let held = holds c.read_codes-sheet.ensures (read-passed (goal.at.returns-in-Refused-used c).After-read_codes-sheet) in
+    let held = holds c.read_codes-sheet.ensures (read-passed (goal.at.returns-in-Refused-used c).In_default) in
     let second = rw held.net-is at (sym c.test_second-used.ensures ∙ c.in-Refused-used.is) in
-    rw c.refused.ensures (read-refused file refl (tests-second file (passed (goal.at.returns-in-Refused-used c).After-read_codes-sheet) ∙ second))
+    rw c.refused.ensures (read-refused file refl (tests-second file (passed (goal.at.returns-in-Refused-used c).In_default) ∙ second))
 
 pub renumber-requires : goal.renumber-requires
 renumber-requires c =
-    (sizes (goal.at.renumber-requires c).After-read_codes-sheet, (holds c.read_codes-sheet.ensures (read-passed (goal.at.renumber-requires c).After-read_codes-sheet)).full.latch-codes)
+    (sizes (goal.at.renumber-requires c).In_default, (holds c.read_codes-sheet.ensures (read-passed (goal.at.renumber-requires c).In_default)).full.latch-codes)
 
 pub renumber-requires-2 : goal.renumber-requires-2
 renumber-requires-2 c =
-    (sizes (goal.at.renumber-requires-2 c).After-read_codes-sheet, (holds c.read_codes-sheet.ensures (read-passed (goal.at.renumber-requires-2 c).After-read_codes-sheet)).full.gate-codes)
+    (sizes (goal.at.renumber-requires-2 c).In_default, (holds c.read_codes-sheet.ensures (read-passed (goal.at.renumber-requires-2 c).In_default)).full.gate-codes)
 
 pub one_record-requires : goal.one_record-requires
 one_record-requires c =
-    let full = (holds c.read_codes-sheet.ensures (read-passed (goal.at.one_record-requires c).After-read_codes-sheet)).full in
-    (sizes (goal.at.one_record-requires c).After-read_codes-sheet, full.address-codes, full.data-codes)
+    let full = (holds c.read_codes-sheet.ensures (read-passed (goal.at.one_record-requires c).In_default)).full in
+    (sizes (goal.at.one_record-requires c).In_default, full.address-codes, full.data-codes)
 
 pub returns : goal.returns
 returns c =
     let file = c.args.file.now in
-    let held = holds c.read_codes-sheet.ensures (read-passed (goal.at.returns c).After-read_codes-sheet) in
+    let held = holds c.read_codes-sheet.ensures (read-passed (goal.at.returns c).In_default) in
     let second = rw held.net-is at (sym c.test_second-used.ensures ∙ c.in_default-used.is) in
     record {
-      verdict-is = sym (tests-second file (passed (goal.at.returns c).After-read_codes-sheet) ∙ second);
+      verdict-is = sym (tests-second file (passed (goal.at.returns c).In_default) ∙ second);
       agrees = λ _.
           rw (← held.net-is)
-          (agree-lists c.read_codes-sheet.result.net c.one_record.result (subst WithinLimits (sym held.net-is) (limits (goal.at.returns c).After-read_codes-sheet)) c.one_record.ensures c.renumber.ensures c.renumber-2.ensures);
+          (agree-lists c.read_codes-sheet.result.net c.one_record.result (subst WithinLimits (sym held.net-is) (limits (goal.at.returns c).In_default)) c.one_record.ensures c.renumber.ensures c.renumber-2.ensures);
     }

@@ -1,6 +1,5 @@
 -- `sheet_one_port::renumber` meets its contract. The loop has renumbered the entries up to i.
 
-use Prim.Native.Nat.{◌-◌}
 use native.Mathlib.Omega.{arith}
 use Rattle.model.specs.OnePort.{one_code}
 use Rattle.sheet_one_port.proofs.Mapped.{mapped-none, mapped_next}

@@ -1,6 +1,6 @@
 -- `sheet_one_port::test_second` meets its contract. The loop's invariant: the lines up to the place do not use the second port.
 
-use Prim.Native.Nat.{◌+◌, ◌-◌}
+use Prim.Native.Nat.{◌+◌}
 use mathlib.Core.Path.{◌≡◌, refl, sym, ◌∙◌, ap}
 use native.Mathlib.Omega.{arith}
 use Rattle.refusals.specs.Tests.{in_order}

@@ -1,7 +1,5 @@
 -- `sheet_reader::read` meets its contract: what is delivered of its own unpacked lists is what `reads` says of it.
 use Rattle.model.proofs.Dependence.{paths}
-use Rattle.call_lists.specs.declared.LatchEntry.{LatchEntry}
-use Rattle.call_lists.specs.declared.GateEntry.{GateEntry}
 use Rattle.sheet_reader.proofs.Delivery.{deliverable}
 use Rattle.sheet_reader.proofs.ReadCall.{Reads, sheet-fits, reads}
 use Rattle.sheet_reader.proofs.read.Goals as goal

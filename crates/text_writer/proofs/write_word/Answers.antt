@@ -1,6 +1,6 @@
 -- `text_writer::write_word` meets its contract. The loop's invariant: the word's first i bytes stand before what was there.
 
-use Prim.Native.Nat.{ℕ, ◌-◌}
+use Prim.Native.Nat.{ℕ}
 use mathlib.Core.Path.{◌≡◌, refl, ◌∙◌}
 use mathlib.Core.List.{List}
 use native.Mathlib.Numerals.{add-one}

@@ -1,5 +1,5 @@
 -- `call_lists::deliver::deliver_gates` meets its contract: a turn delivers one record more.
-use Rattle.std.proofs.Common.{◌≡◌, ◌∙◌, ◌+◌, ℕ, sym, ap, arith, suc, set}
+use Rattle.std.proofs.Common.{◌≡◌, ◌∙◌, ◌+◌, ℕ, sym, ap, arith, suc}
 use Rattle.call_lists.specs.RecordAt.{gate_at}
 use Rattle.call_lists.specs.Delivered.{delivered}
 use Rattle.call_lists.proofs.Delivered.{delivered-none, delivered-next}

@@ -1,5 +1,5 @@
 -- `call_lists::unpack::unpack_gates` meets its contract: a turn unpacks one record more.
-use Rattle.std.proofs.Common.{◌≡◌, ◌∙◌, ◌<◌, length, sym, ap, arith}
+use Rattle.std.proofs.Common.{◌≡◌, ◌∙◌, length, sym, ap, arith}
 use Rattle.call_lists.specs.Unpacked.{gate_codes}
 use Rattle.call_lists.specs.Unpacking.{no_gate, span_of}
 use Rattle.call_lists.specs.declared.GateEntry.{GateEntry}

@@ -1,5 +1,5 @@
 -- `call_lists::unpack::unpack_latches` meets its contract: a turn unpacks one record more.
-use Rattle.std.proofs.Common.{◌≡◌, ◌∙◌, ◌<◌, length, sym, ap, arith}
+use Rattle.std.proofs.Common.{◌≡◌, ◌∙◌, length, sym, ap, arith}
 use Rattle.call_lists.specs.Unpacked.{latch_codes}
 use Rattle.call_lists.specs.Unpacking.{no_latch, span_of}
 use Rattle.call_lists.specs.declared.LatchEntry.{LatchEntry}

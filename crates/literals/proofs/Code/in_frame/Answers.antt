@@ -2,7 +2,6 @@
 
 use Rattle.literals.specs.Lit.{literal_of}
 use Rattle.literals.proofs.Literal.{code_at-constant}
-use borrow.Author.Rules.{rules}
 use Rattle.literals.proofs.Code.in_frame.Goals as goal
 
 pub returns-then-x-lt2 : goal.returns-then-x-lt2

@@ -3,7 +3,6 @@
 use mathlib.Core.Path.{◌∙◌, ap}
 use Rattle.model.specs.Clauses.{neg}
 use Rattle.literals.proofs.Literal.{code_at-inverted, code_at-wire}
-use borrow.Author.Rules.{rules}
 use Rattle.literals.proofs.Lit.signed.Goals as goal
 
 pub returns-then-x-eq1 : goal.returns-then-x-eq1

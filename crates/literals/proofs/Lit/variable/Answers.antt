@@ -2,7 +2,6 @@
 
 use mathlib.Core.Path.{refl}
 use native.Mathlib.Omega.{arith}
-use borrow.Author.Rules.{rules}
 use Rattle.literals.specs.Lit.{literal_at}
 use Rattle.literals.proofs.Literal.{variable-is}
 use Rattle.literals.proofs.Lit.variable.Goals as goal

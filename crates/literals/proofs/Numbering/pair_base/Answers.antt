@@ -1,7 +1,6 @@
 -- `literals::Numbering::pair_base` meets its contract: within the limits no sum wraps.
 
 use native.Mathlib.Omega.{arith}
-use borrow.Author.Rules.{rules}
 use Rattle.literals.specs.Numbering.{pair_base_of}
 use Rattle.literals.proofs.Products.{base_of-most, pairs-most}
 use Rattle.literals.proofs.Numbering.pair_base.Goals as goal

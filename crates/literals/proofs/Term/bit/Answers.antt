@@ -1,7 +1,6 @@
 -- `literals::Term::bit` meets its contract.
 
 use Rattle.model.specs.Bits.{odd, bit}
-use borrow.Author.Rules.{rules}
 use Rattle.literals.proofs.Term.bit.Goals as goal
 
 pub returns : goal.returns

@@ -1,6 +1,5 @@
 -- `literals::Term::first` meets its contract.
 
-use borrow.Author.Rules.{rules}
 use Rattle.literals.specs.Lit.{literal_of}
 use Rattle.literals.proofs.Term.first.Goals as goal
 

@@ -1,7 +1,6 @@
 -- `literals::Term::is_number` meets its contract.
 
 use Rattle.literals.specs.Lit.{is_number}
-use borrow.Author.Rules.{rules}
 use Rattle.literals.proofs.Term.is_number.Goals as goal
 
 pub returns-in-True : goal.returns-in-True

@@ -4,7 +4,6 @@ use mathlib.Core.Path.{sym}
 use Rattle.model.specs.Numbers.{is_true}
 use Rattle.literals.proofs.Literal.{is_true-literal_at}
 use Rattle.literals.specs.Lit.{literal_of}
-use borrow.Author.Rules.{rules}
 use Rattle.literals.proofs.Term.is_true.Goals as goal
 
 pub returns-in-True : goal.returns-in-True

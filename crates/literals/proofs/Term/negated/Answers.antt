@@ -3,7 +3,6 @@
 use mathlib.Core.Path.{refl}
 use Rattle.model.specs.Clauses.{neg}
 use Rattle.literals.specs.Lit.{literal_of}
-use borrow.Author.Rules.{rules}
 use Rattle.literals.proofs.Term.negated.Goals as goal
 
 pub negated-requires : goal.negated-requires

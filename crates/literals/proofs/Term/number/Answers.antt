@@ -3,7 +3,6 @@
 use mathlib.Core.Path.{refl, sym}
 use mathlib.Core.Bool.{true≢false}
 use Rattle.literals.specs.Lit.{literal_of, is_number}
-use borrow.Author.Rules.{rules}
 use Rattle.literals.proofs.Term.number.Goals as goal
 
 pub returns-in-True : goal.returns-in-True

@@ -1,6 +1,5 @@
 -- `literals::Wire::in_frame` meets its contract.
 
-use borrow.Author.Rules.{rules}
 use Rattle.model.specs.Variables.{wire_at}
 use Rattle.literals.specs.Lit.{literal_of}
 use Rattle.literals.proofs.Wire.in_frame.Goals as goal
