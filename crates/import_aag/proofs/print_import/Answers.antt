@@ -1,12 +1,9 @@
--- `import_aag::print_import` meets its contract: what is printed is within its buffer.
-
-use mathlib.Core.Path.{sym}
-use lib.Seq.{length-take-le}
-use borrow.Author.Rules.{rules}
+-- `import_aag::print_import` meets its contract: where no byte is written, none is due.
+use Rattle.std.proofs.Common.{◌∙◌, sym, subst}
+use Rattle.std.specs.Io.KnownBytes.{Appends}
+use Rattle.std.proofs.KnownBytes.{Appends-nil}
+use Rattle.std.proofs.lemmas.List.{nil_from_length}
 use Rattle.import_aag.proofs.print_import.Goals as goal
 
-pub slice_bounds-sheet-end : goal.slice_bounds-sheet-end
-slice_bounds-sheet-end g c = search rules
-
-pub slice_bounds-write_text-end : goal.slice_bounds-write_text-end
-slice_bounds-write_text-end g c = sym (length-take-le _ _ (slice_bounds-sheet-end g (goal.at.slice_bounds-write_text-end g c).Else-bytes-eq0))
+pub returns-then-bytes-eq0 : goal.returns-then-bytes-eq0
+returns-then-bytes-eq0 g c = λ all. subst (Appends _ _) (sym (nil_from_length _ (sym c.write_output-bytes.ensures.text.counted ∙ c.if-bytes-eq0.true))) (Appends-nil _)
