@@ -41,9 +41,9 @@ module _ (c : In_default) where
 pub put_sheet-requires : goal.put_sheet-requires
 unfolding net_of
 put_sheet-requires c =
-    let fit = sizes (goal.at.put_sheet-requires c).After-put_sheet-arg-1 in
+    let fit = sizes (goal.at.put_sheet-requires c).In_default in
     (fit, omega (arith, lines-most _ fit, c.requires))
 
 pub returns : goal.returns
 returns c =
-    let w = rw (holds c.import_text-sheet.ensures (passed (goal.at.returns c).After-put_sheet-arg-1)).net-is at c.put_sheet.ensures in record { text = rw (printed-passed c.args.more c.args.text.now c.args.m c.args.n c.args.word c.args.unknown c.args.second (passed (goal.at.returns c).After-put_sheet-arg-1)) w; most = omega (arith, w.counted, length-sheet_text _ (limits (goal.at.returns c).After-put_sheet-arg-1), lines-most _ (limits (goal.at.returns c).After-put_sheet-arg-1).sizes) }
+    let w = rw (holds c.import_text-sheet.ensures (passed (goal.at.returns c).In_default)).net-is at c.put_sheet.ensures in record { text = rw (printed-passed c.args.more c.args.text.now c.args.m c.args.n c.args.word c.args.unknown c.args.second (passed (goal.at.returns c).In_default)) w; most = omega (arith, w.counted, length-sheet_text _ (limits (goal.at.returns c).In_default), lines-most _ (limits (goal.at.returns c).In_default).sizes) }

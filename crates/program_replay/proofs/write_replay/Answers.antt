@@ -5,7 +5,7 @@ use mathlib.Core.Path.{◌≡◌, sym, ◌∙◌, ap, subst}
 use mathlib.Core.List.{List, [], ◌++◌}
 use native.Mathlib.Omega.{arith}
 use borrow.Author.Rules.{rules}
-use lib.ListN.{take, length-append}
+use lib.ListN.{take, length, length-append}
 use lib.Seq.{length-take-le}
 use Rattle.model.specs.Wrote.{Wrote}
 use Rattle.netlist.specs.NetOf.{net_of}
@@ -28,10 +28,12 @@ slice_bounds-write_both-end-2 c = sym (length-take-le _ _ (search rules))
 
 pub write_both-requires : goal.write_both-requires
 write_both-requires c =
+    let front : length (take c.write_answer-first.result c.write_answer-first.new.out) ≡ c.write_answer-first.result = length-take-le _ _ (search rules) in
+    let behind : length (take c.trace_bytes-bytes.result c.replay_read-reply.new.trace) ≡ c.trace_bytes-bytes.result = length-take-le _ _ (search rules) in
     omega (
       arith,
-      slice_bounds-write_both-end (goal.at.write_both-requires c).After-line-3-1,
-      slice_bounds-write_both-end-2 c,
+      front,
+      behind,
       c.write_answer-first.ensures.most,
       c.trace_bytes-bytes.ensures.most,
       c.requires.2,
@@ -43,6 +45,8 @@ returns c =
     let net = net_of c.args.net c.args.latches.now c.args.gates.now in
     let lines : List ℕ = c.replay_read-reply.new.trace in
     let lent = c.no_lines-trace.ensures in
+    let front : length (take c.write_answer-first.result c.write_answer-first.new.out) ≡ c.write_answer-first.result = length-take-le _ _ (search rules) in
+    let behind : length (take c.trace_bytes-bytes.result c.replay_read-reply.new.trace) ≡ c.trace_bytes-bytes.result = length-take-le _ _ (search rules) in
     let words = c.no_words-memory.ensures in record {
       text = λ text t.
           let printed : take c.write_answer-first.result c.write_answer-first.new.out ++ take c.trace_bytes-bytes.result lines ≡ replayed_text net c.args.depth text =
@@ -55,8 +59,8 @@ returns c =
             arith,
             c.write_both.ensures.counted,
             length-append (take c.write_answer-first.result c.write_answer-first.new.out) (take c.trace_bytes-bytes.result lines),
-            slice_bounds-write_both-end (goal.at.returns c).After-line-3-1,
-            slice_bounds-write_both-end-2 (goal.at.returns c).After-trace-3-1,
+            front,
+            behind,
             c.write_answer-first.ensures.most,
             c.trace_bytes-bytes.ensures.most,
           );

@@ -36,13 +36,12 @@ scan_bytes-requires g c = c.loop-more.invariant.1
 
 pub returns-then-bytes-lt65536 : goal.returns-then-bytes-lt65536
 returns-then-bytes-lt65536 g c =
-    let inv = c.loop-more.invariant in (
-      c.scan_bytes.ensures.holds,
-      (
-        one_more inv.2 c.scan_bytes.ensures.behind (omega (arith, c.read_piece-bytes.ensures.counted.0, slice_bounds-scan_bytes-end g (goal.at.returns-then-bytes-lt65536 g c).After-piece-then-bytes-lt65536-1)),
-        not-true-false _ (λ h. omega (arith, (c.read_piece-bytes.ensures.counted.1 h).0, c.read_piece-bytes.auto.1.0, inv.0, c.if-bytes-lt65536.true)),
-      ),
-    )
+    let inv = c.loop-more.invariant in
+    record {
+      holds = c.scan_bytes.ensures.holds;
+      behind = one_more inv.2 c.scan_bytes.ensures.behind (omega (arith, c.read_piece-bytes.ensures.counted, slice_bounds-scan_bytes-end g (goal.at.returns-then-bytes-lt65536 g c).After-piece-then-bytes-lt65536-1));
+      ended = not-true-false _ (λ h. omega (arith, (c.read_piece-bytes.ensures.more h).0, c.read_piece-bytes.auto.1.0, inv.0, c.if-bytes-lt65536.true));
+    }
 
 pub slice_bounds-scan_bytes-end-in-loop-more : goal.slice_bounds-scan_bytes-end-in-loop-more
 slice_bounds-scan_bytes-end-in-loop-more g c = sym (c.read_piece-bytes.auto.1.0 ∙ c.loop-more.invariant.0)
@@ -51,7 +50,7 @@ pub scan_bytes-scan-requires : goal.scan_bytes-scan-requires
 scan_bytes-scan-requires g c = c.loop-more.invariant.1
 
 pub loop-more-smaller : goal.loop-more-smaller
-loop-more-smaller g c = omega (arith, c.read_piece-bytes.ensures.counted.0, c.if-bytes-lt65536.false, c.loop-more.invariant.3 c.loop-more-test.true)
+loop-more-smaller g c = omega (arith, c.read_piece-bytes.ensures.counted, c.if-bytes-lt65536.false, c.loop-more.invariant.3 c.loop-more-test.true)
 
 pub loop-more-preserved : goal.loop-more-preserved
 loop-more-preserved g c =
@@ -59,11 +58,11 @@ loop-more-preserved g c =
     let full = c.read_piece-bytes.auto.1.0 ∙ inv.0 in (
       full,
       c.scan_bytes-scan.ensures.holds,
-      one_more inv.2 c.scan_bytes-scan.ensures.behind (omega (arith, full, c.read_piece-bytes.ensures.within, c.read_piece-bytes.ensures.counted.0, c.if-bytes-lt65536.false)),
-      λ h. (c.read_piece-bytes.ensures.counted.1 h).1,
+      one_more inv.2 c.scan_bytes-scan.ensures.behind (omega (arith, full, c.read_piece-bytes.ensures.within, c.read_piece-bytes.ensures.counted, c.if-bytes-lt65536.false)),
+      λ h. (c.read_piece-bytes.ensures.more h).1,
     )
 
 pub returns : goal.returns
 returns g c =
     let inv = c.loop-more.invariant in
-    (inv.1, (inv.2, c.loop-more-test.false))
+    record { holds = inv.1; behind = inv.2; ended = c.loop-more-test.false }

@@ -10,8 +10,8 @@ use Rattle.replay.specs.SomeText.{SomeText}
 use Rattle.replay.proofs.scan_file.Given as goal
 
 abbrev pub invariant-loop-more : goal.invariant-loop-more
-invariant-loop-more l =
+invariant-loop-more g l =
     (length l.piece ≡ 65536) × LineKept l.scan.position l.scan.line × SomeText l.got (λ text. ScanBehind text l.scan l.signs) × (l.more ≡ true → l.got < 2 ^ 63)
 
 abbrev pub decreases-loop-more : goal.decreases-loop-more
-decreases-loop-more l = 2 ^ 64 - l.got
+decreases-loop-more g l = 2 ^ 64 - l.got
