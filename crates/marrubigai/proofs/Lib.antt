@@ -1,3 +1,2 @@
-pub mod SheetReplies
 pub mod TextReplies
 pub mod Order
