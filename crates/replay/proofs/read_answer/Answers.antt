@@ -2,7 +2,7 @@
 
 use Rattle.replay.proofs.read_answer.Goals as goal
 
-pub returns : goal.returns
-returns g c =
+pub returns-clause-read : goal.returns-clause-read
+returns-clause-read g c =
     let scanned = c.scan_file.ensures.behind in
-    record { read = record { text = scanned.0.text; counted = scanned.0.counted; holds = c.scan_end.ensures.answer _ _ scanned.0.holds }; ended = scanned.1 }
+    record { text = scanned.text; counted = scanned.counted; holds = c.scan_end-2.ensures.answer _ _ scanned.holds }
