@@ -9,4 +9,4 @@ print_refusal-requires g c =
     (refused-frames _ _ c.read_input-taken.ensures.answer (λ none. omega arith), c.requires.0)
 
 pub print_formula-requires : goal.print_formula-requires
-print_formula-requires g c = (c.read_input-taken.ensures.taken.0 c.if-taken-ne0.false, c.requires.0)
+print_formula-requires g c = (c.read_input-taken.ensures.taken c.if-taken-ne0.false, c.requires.0)

@@ -2,7 +2,7 @@
 -- that of the groups behind it is due. Each piece leaves fewer groups, so the loop ends; and no piece is longer than its buffer, so the count fits.
 
 use Prim.Native.Nat.{◌≤◌}
-use mathlib.Core.Path.{◌≡◌, sym, ◌∙◌, subst}
+use mathlib.Core.Path.{◌≡◌, sym, subst}
 use native.Mathlib.Omega.{arith}
 use borrow.Author.Rules.{rules}
 use mathlib.Core.List.{[]}
@@ -36,7 +36,7 @@ loop-next-init g c =
       header-printed (taken-frames taken) c.requires.1 (c.first_group-next.ensures _),
       omega (arith, c.requires.2, first-remaining (ports (alone c.args.taken.net)) c.args.taken.depth c.first_group-next.result ports-most taken.depth-most (c.first_group-next.ensures _)),
       search rules,
-      λ last. (last, subst (Appends _ _) (sym (nothing-between _ _)) (Appends-nil _)),
+      λ last. (last, subst (Appends _ _) (sym (nothing-between c.args.sent.now (frames_text c.args.input.now))) (Appends-nil _)),
     )
 
 -- the group that comes next is due
@@ -52,13 +52,13 @@ print_groups-piece-requires g c =
 -- the text is within its buffer
 module _ (g : Over) (c : After-print_groups-piece g) where
   within : c.print_groups-piece.result.bytes ≤ length c.print_groups-piece.new.text
-  within = omega (arith, c.print_groups-piece.ensures.ends.1.0, c.print_groups-piece.auto.0)
+  within = omega (arith, c.print_groups-piece.ensures.within, c.print_groups-piece.auto.text)
 
   -- which is as long as it was
   most : length (take c.print_groups-piece.result.bytes c.print_groups-piece.new.text) ≤ 131072
   most =
       let counted : length (take c.print_groups-piece.result.bytes c.print_groups-piece.new.text) ≡ c.print_groups-piece.result.bytes = length-take-le _ _ within in
-      omega (arith, counted, c.print_groups-piece.ensures.ends.1.0, c.loop-next.invariant.0)
+      omega (arith, counted, c.print_groups-piece.ensures.within, c.loop-next.invariant.0)
 
   -- and the piece is the text that is next
   due : PrintedSo (frames_text c.args.input.now) (net_of c.args.taken.net c.args.latches.now c.args.gates.now) c.args.taken.depth c.loop-next.sent (Then c.in-Then.group)
@@ -81,16 +81,16 @@ write_next-requires g c =
     )
 
 pub loop-next-smaller : goal.loop-next-smaller
-loop-next-smaller g c = rw c.in-Then.is (omega (arith, c.print_groups-piece.ensures.ends.0))
+loop-next-smaller g c = rw c.in-Then.is (omega (arith, c.print_groups-piece.ensures.ends))
 
 pub loop-next-preserved : goal.loop-next-preserved
 loop-next-preserved g c =
     let there = (goal.at.loop-next-preserved g c).After-print_groups-piece in
     let sent = c.write_next.ensures.sent in
-    let fewer = c.print_groups-piece.ensures.ends.0 in
+    let fewer = c.print_groups-piece.ensures.ends in
     let stands = piece-stands (due g there) (continues g there) in (
-      c.print_groups-piece.auto.0 ∙ c.loop-next.invariant.0,
-      c.print_groups-piece.auto.1.0 ∙ c.loop-next.invariant.1,
+      search rules,
+      search rules,
       c.loop-next.invariant.2,
       rw sent (piece-printed (due g there) (continues g there)),
       omega (arith, sent, rw c.in-Then.is at c.loop-next.invariant.4, fewer, most g there),

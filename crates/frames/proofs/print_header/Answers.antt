@@ -32,7 +32,7 @@ counted g c =
     omega (arith, ap length (wrote-front w.0), w.0.counted, w.1)
 
 pub slice_bounds-write_next-end : goal.slice_bounds-write_next-end
-slice_bounds-write_next-end g c = sym (length-take-le _ _ (slice_bounds-text-end g (goal.at.slice_bounds-write_next-end g c).After-write_next-arg-2-1))
+slice_bounds-write_next-end g c = sym (length-take-le _ _ (search rules))
 
 pub write_next-requires : goal.write_next-requires
 write_next-requires g c =

@@ -28,10 +28,11 @@ front g c = wrote-front c.write_refusal-bytes.ensures
 
 pub slice_bounds-text-end : goal.slice_bounds-text-end
 slice_bounds-text-end g c =
-    omega (arith, counted g (goal.at.slice_bounds-text-end g c).After-write_refusal-bytes, c.write_refusal-bytes.auto.0)
+    omega (arith, counted g (goal.at.slice_bounds-text-end g c).After-write_refusal-bytes, c.write_refusal-bytes.auto.out)
 
 pub slice_bounds-write_next-end : goal.slice_bounds-write_next-end
-slice_bounds-write_next-end g c = sym (length-take-le _ _ (slice_bounds-text-end g (goal.at.slice_bounds-write_next-end g c).After-write_next-arg-2-1))
+slice_bounds-write_next-end g c = let all = counted g (goal.at.slice_bounds-write_next-end g c).After-write_refusal-bytes in
+    sym (length-take-le _ _ (omega (arith, all, c.write_refusal-bytes.auto.out)))
 
 pub write_next-requires : goal.write_next-requires
 write_next-requires g c =
