@@ -1,5 +1,5 @@
 // The loop by which a file is read line by line into the record and the lists (RULES S5, S7, S13, S14 and T53): a reader moves on, and each of
-// its answers is taken. It is a crate of its own because it is proved by hand: no wrong version of what it calls checks it anew.
+// its answers is taken. It is a crate of its own: no wrong version of what it calls checks it anew.
 #![tactic(auto)]
 
 ghost use Rattle.std.specs.Prelude.{◌≡◌, false};
