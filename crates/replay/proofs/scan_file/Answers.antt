@@ -1,7 +1,7 @@
 -- `replay::scan_file` meets its contract. The loop's invariant: the scan is behind a text of as many bytes as were read. Each full piece leaves fewer
 -- that can be read, so the loop ends.
 
-use mathlib.Core.Path.{◌≡◌, sym, ◌∙◌}
+use mathlib.Core.Path.{◌≡◌}
 use native.Mathlib.Omega.{arith}
 use borrow.Author.Rules.{rules}
 use lib.ListN.{length}
