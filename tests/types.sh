@@ -199,7 +199,7 @@ apart() { # files
 
 . tests/check.sh
 whole=1
-apart $(find crates -name '*.rt' | sort) > "$work/found"
+apart $(find crates -path 'crates/*/out' -prune -o -name '*.rt' -print | sort) > "$work/found"
 status=$?
 sed '$d' "$work/found"
 passed=$(sed -n '$s/ passed.*//p' "$work/found")
