@@ -20,8 +20,7 @@ is_due g c =
 pub write_text-requires : goal.write_text-requires
 write_text-requires g c =
     let some = c.requires.1 in
-    let due = is_due g (goal.at.write_text-requires g c).After-write_replay-bytes in
-    (
+    let due = is_due g (goal.at.write_text-requires g c).After-write_replay-bytes in (
       record { text = some.text; counted = some.counted; holds = λ answer ends. due ∙ sym (ap (replay_text c.args.input.now) (ends c.requires.2)) },
       c.requires.3,
     )
