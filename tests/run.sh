@@ -117,7 +117,7 @@ if [ "$(cat "$logs/staticlib.status")" = 0 ]; then
   pass
   # it checks as many edits side by side as there are processors
   limit=5400 start "each must-fail edit is refused at a fact" edits bash tests/edits.sh
-  start "the command marrubigai, with yosys and sanitizers" command bash tests/command.sh "$frames" "$replay" "$exporter"
+  limit=1800 start "the command marrubigai, with yosys and sanitizers" command bash tests/command.sh "$frames" "$replay" "$exporter"
   start "the library against the second implementation" library "$logs/library"
   start "from Verilog to an imported netlist, an exported file and a shown run, with yosys and abc" verilog \
     bash tests/verilog.sh "$frames" "$replay" "$import" "$exporter" "$logs/verilog"
