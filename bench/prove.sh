@@ -1,8 +1,6 @@
 #!/usr/bin/env bash
 # Proofs for every frame, beside abc's pdr and yosys-smtbmc's k-induction (with z3), which get the same designs with their memories as yosys makes
-# them: the repaired sheets of the examples, and the repaired designs of examples/verilog by sizes of the memory. Processor time in seconds; `-` where
-# nothing was proved within the limit. Each of the three is the whole way from the file that is given: of a design it has yosys' work in it, which each
-# has done in its own way, and of a sheet, which is a netlist already, nobody's. Beside pdr's whole way stands what abc takes of it.
+# them: the repaired sheets of the examples, and the repaired designs of examples/verilog by sizes of the memory. Processor time in seconds; `-` where nothing was proved within the limit.
 # Arguments: the limit in seconds of processor time (60), and the sizes in address bits (3 5 7 9). After `make command`.
 set -u
 cd "$(dirname "$0")/.." || exit 2
@@ -21,26 +19,21 @@ timed() { # words, command ..
   local words=$1
   shift
   { time (ulimit -t "$limit"; timeout $((5 * limit)) "$@" > "$work/out" 2>&1); } 2> "$work/time"
-  if grep -q "$words" "$work/out"; then tail -n 1 "$work/time" | awk '{ printf "%.2f", $1 + $2 }'; else printf -- -; fi
+  if grep -q "$words" "$work/out"; then tail -n 1 "$work/time" | awk '{ printf "%.1f", $1 + $2 }'; else printf -- -; fi
 }
 
-# yosys' processor time, in `prepared`
 prepare() { # file, what yosys does with the memory, top and parameters
-  { time yosys -Q -T -q -p "read_verilog -formal -sv -I$PWD/examples/verilog $1; hierarchy -check $3; proc; flatten; delete -port o:*
-    chformal -early; chformal -cover -remove; opt -keepdc; $2" > "$work/yosys" 2>&1; } 2> "$work/time" || cat "$work/yosys"
-  prepared=$(tail -n 1 "$work/time" | awk '{ printf "%.2f", $1 + $2 }')
-  case $1 in */sheet.sv) prepared=0 ;; esac
+  yosys -Q -T -q -p "read_verilog -formal -sv -I$PWD/examples/verilog $1; hierarchy -check $3; proc; flatten; delete -port o:*
+    chformal -early; chformal -cover -remove; opt -keepdc; $2" > "$work/yosys" 2>&1 || cat "$work/yosys"
 }
-whole() { [ "$1" = - ] && printf -- - || awk -v one="$1" -v other="$prepared" 'BEGIN { printf "%.2f", one + other }'; } # with yosys' time
 row() { # design, address bits, top and parameters for yosys, file for yosys, options of the command ..; facts: what is stated
-  local design=$1 words=$((1 << $2)) top=$3 file=$4 pdr abc smtbmc prove check size by
+  local design=$1 words=$((1 << $2)) top=$3 file=$4 pdr smtbmc prove check size by
   shift 4
   prepare "$file" "memory -nordff; opt -keepdc; setundef -undriven -anyseq; async2sync; dffunmap; techmap; setundef -anyseq; aigmap; opt_clean
     write_aiger -zinit $work/registers.aig" "$top"
-  abc=$(timed 'Property proved' berkeley-abc -q "read_aiger $work/registers.aig; fold; pdr")
-  pdr=$(whole "$abc")
+  pdr=$(timed 'Property proved' berkeley-abc -q "read_aiger $work/registers.aig; fold; pdr")
   prepare "$file" "memory -nordff -nomap; opt; async2sync; dffunmap; write_smt2 -wires $work/design.smt2" "$top"
-  smtbmc=$(whole "$(timed 'Temporal induction successful' yosys-smtbmc -s z3 -i -t 20 "$work/design.smt2")")
+  smtbmc=$(timed 'Temporal induction successful' yosys-smtbmc -s z3 -i -t 20 "$work/design.smt2")
   rm -f "$work/made"
   prove=$(timed 'holds in every frame, certified' "$command" -k 3 --timeout $((4 * limit)) --prove ${facts-} --certificate "$work/made" "$@")
   by=$(sed -n 's/.* clauses, by \(.*\), with .*/\1/p' "$work/out")
@@ -49,7 +42,7 @@ row() { # design, address bits, top and parameters for yosys, file for yosys, op
     size=$(($(stat -c %s "$work/made") / 1024))
     check=$(timed 'holds in every frame, certified' "$command" -q --check "$work/made" "$@")
   fi
-  echo "| \`$design\` | $words | $pdr | $abc | $smtbmc | $prove | ${by:--} | $size | $check |"
+  echo "| \`$design\` | $words | $pdr | $smtbmc | $prove | ${by:--} | $size | $check |"
 }
 around() { # design with its parameters, its other inputs: a reset in frame 0
   printf '`include "%s.v"\nmodule around (input clock, %s);\n' "${1%% *}" "$2"
@@ -58,8 +51,8 @@ around() { # design with its parameters, its other inputs: a reset in frame 0
 
 assertion() { echo "$designs/$1.v:$(grep -n 'assert (' "$designs/$1.v" | cut -d : -f 1)"; } # the name of a design's one assertion
 
-echo "| design | words | pdr | abc's part | smtbmc | --prove | by | KB | check |"
-echo "|---|---|---|---|---|---|---|---|---|"
+echo "| design | words | pdr | smtbmc | --prove | by | KB | check |"
+echo "|---|---|---|---|---|---|---|---|"
 case " $sizes " in
   *" 3 "*)
     for example in fourth-revision fifth-revision sixth-revision seventh-revision; do

@@ -27,7 +27,7 @@ uint32_t variable_of(int32_t number) { return static_cast<uint32_t>(std::abs(num
 Literal literal_of(int32_t number) { return 2 * variable_of(number) + (number < 0); }
 int32_t number_of(Literal literal) { return literal & 1 ? -static_cast<int32_t>(literal / 2) : static_cast<int32_t>(literal / 2); }
 
-// In which turn a clause is looked at: those that are needed, the others, those that the solver had deleted or never had.
+// In which turn a clause is looked at: those that are needed, the others, those that the solver had deleted.
 enum Rank : uint32_t { NEEDED, ACTIVE, RESTING, RANKS };
 
 // All clauses, one behind the other: four times the length and the rank, the place in the certificate's store, and the literals. The first two are
@@ -125,14 +125,6 @@ public:
     for (Place clause = 0; clause < clauses.end(); clause = clauses.next(clause))
       if (clauses.rank(clause) != RESTING) watch(clause);
     through[RESTING] = trail.size();
-  }
-
-  // Clauses with a variable that the solver had another literal for.
-  void rest(const std::vector<bool> &replaced) {
-    for (Place clause = 0; clause < clauses.end(); clause = clauses.next(clause)) {
-      auto is_replaced = [&](Literal literal) { return literal / 2 < replaced.size() && replaced[literal / 2]; };
-      if (std::any_of(clauses.begin(clause), clauses.end(clause), is_replaced)) clauses.set_rank(clause, RESTING);
-    }
   }
 
   // the solver had not deleted it yet
@@ -349,12 +341,7 @@ struct Forward {
       count++;
       return clause;
     };
-    auto is_left_out = [&](int32_t number) { return variable_of(number) < learnt.left_out.size() && learnt.left_out[variable_of(number)]; };
-    for (size_t begin = 0, end; begin < formula.size() && conflict == NONE;) {
-      for (end = begin; formula[end] != 0 && !is_left_out(formula[end]); end++) {}
-      if (formula[end] == 0) conflict = state.settle(add(formula, begin));
-      else begin = static_cast<size_t>(std::find(formula.begin() + static_cast<std::ptrdiff_t>(end), formula.end(), 0) - formula.begin()) + 1;
-    }
+    for (size_t begin = 0; begin < formula.size() && conflict == NONE;) conflict = state.settle(add(formula, begin));
     if (conflict == NONE) conflict = state.propagate();
     auto deletion = learnt.deletions.begin();
     for (size_t begin = 0; begin < learnt.numbers.size() && conflict == NONE;) {
@@ -409,7 +396,6 @@ Elaborated elaborate(const std::vector<int32_t> &formula, const Learnt &learnt, 
     state.undo(from);
   };
   for (const Forward::Deleted &deletion : forward.deleted) state.clauses.set_rank(deletion.clause, RESTING);
-  if (!learnt.replaced.empty()) state.rest(learnt.replaced);
   for (size_t variable = 0; variable < std::min(learnt.left_out.size(), state.left_out.size()); variable++)
     state.left_out[variable] = learnt.left_out[variable];
   for (size_t lemma = forward.lemmas.size() - wanted; lemma < forward.lemmas.size(); lemma++)

@@ -33,7 +33,6 @@ struct Learnt {
   std::vector<Deletion> deletions{};
   std::vector<Reach> reaches{};
   std::vector<bool> left_out{}; // by variable: it was never given; where this is empty, all were
-  std::vector<bool> replaced{}; // by variable: another literal was given in its place
 };
 
 // the same for the same literals in any order

@@ -105,13 +105,13 @@ std::vector<Verdict> search_and_prove(const Chip &chip, const Options &options, 
 
 Searched search_chip(const Chip &chip, const Options &options, Stop &stop) {
   if (!options.check_file.empty()) return {chip, {check_certificate(chip, options, stop)}};
-  if (assumptions_end(chip, 0, stop)) // before a certificate of what holds for want of runs is written
-    throw Failure(options.files[0] + ": no run meets the assumptions in frame 0: nothing can be said of the design.\n"
-                                     "Two of them are contrary to each other, or to --reset (a reset that is active when it is 0 is --reset '!NAME').");
   std::vector<Verdict> verdicts = options.prove ? search_and_prove(chip, options, stop) : search_to_depth(chip, options, stop);
   std::optional<uint32_t> end;
   if (std::any_of(verdicts.begin(), verdicts.end(), [](const Verdict &verdict) { return verdict.kind == Verdict::Kind::holds; }))
     end = assumptions_end(chip, options.depth, stop);
+  if (end && *end == 0)
+    throw Failure(options.files[0] + ": no run meets the assumptions in frame 0: nothing can be said of the design.\n"
+                                     "Two of them are contrary to each other, or to --reset (a reset that is active when it is 0 is --reset '!NAME').");
   for (size_t p = 0; options.confirm && p < verdicts.size(); p++)
     if (verdicts[p].run) verdicts[p].confirmed = confirm(options, chip, chip.properties[p], *verdicts[p].run, stop);
   return {chip, verdicts, end};

@@ -65,8 +65,7 @@ const Cell &only_memory(const Design &design, const std::string &chosen) {
     std::string said;
     for (const std::string &warning : design.warnings) said += "\n  " + warning;
     throw Failure(design.top + ": the design has no memory that is written and read, and this engine is for chips with one.\n" +
-                  "An array that yosys dissolves into registers is none: one whose every index is a constant, or that is written in a block with an\n"
-                  "asynchronous reset; there, write it in a block of its own: always @(posedge clock) if (..) array[..] <= .." + said);
+                  "An array that yosys dissolves into registers, as one whose every index is a constant, is none." + said);
   }
   if (found.size() == 1) return *found[0];
   std::string list;

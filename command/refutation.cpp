@@ -133,6 +133,5 @@ Learnt Refutation::learnt(Stop &stop) {
   }
   if (note < notes.size()) throw NoCertificate("it is shorter than it was");
   made.left_out = left_out;
-  made.replaced = replaced;
   return made;
 }

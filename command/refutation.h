@@ -30,11 +30,8 @@ public:
   // Clauses of the formula's variables, each ended by 0, that follow by propagation from what is before this place and from each other in turn. The
   // solver itself is told them, or what follows from them, as clauses of its own, of which it writes nothing.
   void add(uint64_t place, const std::vector<int32_t> &clauses);
-  // by variable of the formula: it was never given; another literal was given in its place
-  void leave_out(std::vector<bool> variables, std::vector<bool> with_others) {
-    left_out = std::move(variables);
-    replaced = std::move(with_others);
-  }
+  // by variable of the formula: it was never given
+  void leave_out(std::vector<bool> variables) { left_out = std::move(variables); }
   // behind the last answer, while there is the solver
   void finish(CaDiCaL::Solver &solver);
 
@@ -51,7 +48,7 @@ private:
   std::FILE *file;
   std::vector<int32_t> lemmas; // each ended by 0
   std::vector<Note> notes;
-  std::vector<bool> left_out, replaced;
+  std::vector<bool> left_out;
   std::vector<int32_t> names; // from the solver's variable 1 on
   void rename(std::vector<int32_t> &clause) const;
 };

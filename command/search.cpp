@@ -18,9 +18,6 @@ public:
     // Many short calls gain from neither stable phases nor local search; docs/COMMAND.md has what was measured.
     solver.set("stabilize", 0);
     solver.set("walk", 0);
-    // Elimination takes half a second where it is not held to what the search took, and is of no use to short ones.
-    solver.set("elimint", 4000);
-    solver.set("elimineff", 100000);
     if (plan.refutation) plan.refutation->trace(solver);
     solver.connect_terminator(&stop);
     for (Verdict &verdict : verdicts) verdict.from = plan.from;
@@ -33,7 +30,7 @@ public:
     if (plan.any) ask_once();
     else ask_by_frame();
     if (plan.refutation && verdicts[0].kind == Verdict::Kind::holds) {
-      plan.refutation->leave_out(unrolling.left_out(), unrolling.replaced());
+      plan.refutation->leave_out(unrolling.left_out());
       plan.refutation->finish(solver);
     }
     return std::move(verdicts);
@@ -61,15 +58,6 @@ private:
                     ", but here is one. The solver is wrong: nothing that it says of this chip can be relied on.");
   }
 
-  // Whether there is a run in which one of the goals is true, under what is assumed.
-  int solve(const std::vector<int32_t> &assumed, const std::vector<Goal> &goals) {
-    for (;;) {
-      for (int32_t literal : assumed) solver.assume(literal);
-      int answer = solver.solve();
-      if (answer != SATISFIABLE || !unrolling.refine(goals)) return answer;
-    }
-  }
-
   // one of the sheet, in this frame of the design; not where it is time to stop
   bool add_frame(uint32_t frame) {
     if (stop.is_due()) return false;
@@ -89,7 +77,8 @@ private:
         const Property &property = chip.properties[open[at]];
         Verdict &verdict = verdicts[open[at]];
         int32_t broken = violation(property, unrolling.positions().back()), asked = unrolling.ask(broken);
-        int answer = asked ? solve({asked}, {{of_sheet, property.code ^ 1}}) : UNSATISFIABLE;
+        solver.assume(asked);
+        int answer = solver.solve();
         if (answer == SATISFIABLE) {
           take_model(verdict, property);
           open.erase(open.begin() + static_cast<std::ptrdiff_t>(at));
@@ -97,7 +86,8 @@ private:
         }
         if (answer != UNSATISFIABLE) return;
         if (plan.refutation) plan.refutation->add(plan.refutation->place(solver), {-broken, 0});
-        if (asked) solver.add(-asked), solver.add(0); // it follows from the clauses that are there
+        solver.add(-asked); // it follows from the clauses that are there
+        solver.add(0);
         verdict.safe = chip.design_frame(of_sheet + 1) - plan.from;
         verdict.seconds = stop.seconds();
         at++;
@@ -112,16 +102,13 @@ private:
     for (size_t p = 0; p < verdicts.size(); p++) {
       // A variable of our own that switches the property's clause on; a single property's is on. So a refutation is one of the formula.
       int32_t asked = verdicts.size() == 1 ? 0 : unrolling.new_variable();
-      std::vector<int32_t> clause, assumed;
-      std::vector<Goal> goals;
-      for (const marrubigai_position &frame : unrolling.positions()) {
-        int32_t literal = unrolling.ask(violation(chip.properties[p], frame));
-        if (literal) clause.push_back(literal), goals.push_back({frame.frame, chip.properties[p].code ^ 1});
-      }
-      if (asked) solver.add(-asked), assumed.push_back(asked);
+      std::vector<int32_t> clause;
+      for (const marrubigai_position &frame : unrolling.positions()) clause.push_back(unrolling.ask(violation(chip.properties[p], frame)));
+      if (asked) solver.add(-asked);
       for (int32_t literal : clause) solver.add(literal);
       solver.add(0);
-      int answer = solve(assumed, goals);
+      if (asked) solver.assume(asked);
+      int answer = solver.solve();
       if (answer == SATISFIABLE) {
         take_model(verdicts[p], chip.properties[p]);
       } else if (answer == UNSATISFIABLE) {

@@ -19,9 +19,6 @@ void test(uint32_t number, uint32_t place) {
 
 uint32_t variable_of(int32_t literal) { return static_cast<uint32_t>(std::abs(literal)); }
 
-constexpr uint32_t FEW = 4; // pairs of a read; where more are needed, all are given
-constexpr std::ptrdiff_t GATE = 10, GATE_OPERANDS = 6; // the numbers of a gate's three clauses, and of the two that have an operand each
-
 const int32_t *end_of(const int32_t *clause) {
   while (*clause != 0) clause++;
   return clause;
@@ -98,13 +95,22 @@ uint32_t Unrolling::part_of_pair(uint32_t variable) const {
   return of.wire ? 0 : (variable - records[of.frame].base - chip.wires() - 1) % (chip.net.m + 4) + 1;
 }
 
-bool Unrolling::is_own(uint32_t variable, uint32_t frame, uint32_t port) const {
-  if (!is_of_frame(variable, frame)) return false;
-  Origin of = origin(variable);
-  return of.frame == frame && of.port == static_cast<int>(port);
+const std::vector<int32_t> &Unrolling::reads(uint32_t frame, int port) {
+  std::vector<int32_t> &numbers = frames[frame].reads[port];
+  if (!numbers.empty()) return numbers;
+  uint32_t number = static_cast<uint32_t>(port) + 1;
+  for (uint32_t j = frame; j > 0; j--) append_group(numbers, frame, MARRUBIGAI_PAIR, j - 1, number);
+  append_group(numbers, frame, MARRUBIGAI_CLOSING, 0, number);
+  return numbers;
 }
 
-// Whatever the clauses of a variable speak of is given before them; of a gate nothing more where one operand is false.
+bool Unrolling::is_own(uint32_t variable, uint32_t frame, int port) const {
+  if (variable <= records[frame].base) return false;
+  Origin of = origin(variable);
+  return of.frame == frame && of.port == port;
+}
+
+// Whatever the clauses of a variable speak of is given before them.
 void Unrolling::demand(uint32_t variable) {
   std::vector<uint32_t> open{variable};
   while (!open.empty()) {
@@ -113,114 +119,30 @@ void Unrolling::demand(uint32_t variable) {
       open.pop_back();
       continue;
     }
+    size_t before = open.size();
     Origin of = origin(top);
-    if (of.port >= 0) {
-      open_read(of.frame, static_cast<uint32_t>(of.port));
-      continue;
+    if (of.port < 0) {
+      const Frame &frame = frames[of.frame];
+      const int32_t *begin = frame.wires.data() + frame.ranges[of.wire].begin, *end = frame.wires.data() + frame.ranges[of.wire].end;
+      for (const int32_t *at = begin; at != end; at++)
+        if (*at != 0 && variable_of(*at) != top && !same[variable_of(*at)]) open.push_back(variable_of(*at));
+      if (open.size() > before) continue;
+      same[top] = static_cast<int32_t>(top);
+      give(begin, end);
+    } else {
+      const std::vector<int32_t> &numbers = reads(of.frame, of.port);
+      for (int32_t number : numbers)
+        if (number != 0 && !same[variable_of(number)] && !is_own(variable_of(number), of.frame, of.port)) open.push_back(variable_of(number));
+      if (open.size() > before) continue;
+      for (int32_t number : numbers)
+        if (number != 0 && !same[variable_of(number)]) same[variable_of(number)] = std::abs(number);
+      for (uint32_t t = 0; t < chip.net.n; t++) { // also where no clause has it
+        uint32_t bit = records[of.frame].base + chip.first_read(static_cast<size_t>(of.port)) + t;
+        if (!same[bit]) same[bit] = static_cast<int32_t>(bit);
+      }
+      give(numbers.data(), numbers.data() + numbers.size());
+      frames[of.frame].reads[of.port] = {};
     }
-    const Frame &frame = frames[of.frame];
-    const int32_t *begin = frame.wires.data() + frame.ranges[of.wire].begin, *end = frame.wires.data() + frame.ranges[of.wire].end;
-    uint32_t next = 0; // the lowest one that is not given: mostly it depends on least
-    bool is_false = false;
-    for (const int32_t *at = begin; at != end; at++) {
-      uint32_t other = variable_of(*at);
-      if (*at == 0 || other == top) continue;
-      if (!same[other]) next = next == 0 ? other : std::min(next, other);
-      else if (end - begin == GATE && at - begin < GATE_OPERANDS && find(*at) == -TRUE) is_false = true;
-    }
-    if (next && !is_false) {
-      open.push_back(next);
-      continue;
-    }
-    same[top] = static_cast<int32_t>(top);
-    if (is_false) make_same(static_cast<int32_t>(top), -TRUE);
-    else give(begin, end);
-  }
-}
-
-void Unrolling::open_read(uint32_t frame, uint32_t port) {
-  frames[frame].reads[port].is_open = true;
-  for (uint32_t t = 0; t < chip.net.n; t++) {
-    uint32_t bit = records[frame].base + chip.first_read(port) + t;
-    same[bit] = static_cast<int32_t>(bit);
-  }
-  opened.emplace_back(frame, port);
-}
-
-// clauses of a pair or of a closing
-void Unrolling::give_read(const std::vector<int32_t> &numbers, uint32_t frame, uint32_t port) {
-  for (int32_t number : numbers) {
-    uint32_t variable = variable_of(number);
-    if (number == 0 || same[variable]) continue;
-    if (is_own(variable, frame, port)) same[variable] = static_cast<int32_t>(variable);
-    else demand(variable);
-  }
-  give(numbers.data(), numbers.data() + numbers.size());
-}
-
-// Some of the clauses of a pair or of a closing. Of an unknown start (RULES G32): those with E of the pair and Z of the frame. Of the word held (G25):
-// those of a closing that speak of the frame before.
-void Unrolling::append_part(std::vector<int32_t> &numbers, uint32_t frame, uint32_t kind, uint32_t j, uint32_t port, std::initializer_list<Part> parts) {
-  std::vector<int32_t> group;
-  append_group(group, frame, kind, j, port + 1);
-  uint32_t first = records[frame].base + chip.wires() + 1, equal = first + j * (chip.net.m + 4), none = first + chip.net.m + 2; // with one port
-  for (auto at = group.begin(); at != group.end();) {
-    auto end = std::find(at, group.end(), 0);
-    auto has = [&](auto of) { return std::any_of(at, end, [&](int32_t number) { return of(variable_of(number)); }); };
-    Part part = Part::of_rest;
-    if (kind == MARRUBIGAI_CLOSING) {
-      if (frame > 0 && has([&](uint32_t variable) { return !is_of_frame(variable, frame); })) part = Part::of_held;
-    } else if (chip.net.unknown_start) {
-      if (has([&](uint32_t variable) { return variable == equal; }) && has([&](uint32_t variable) { return variable == none; })) part = Part::of_start;
-    }
-    if (std::find(parts.begin(), parts.end(), part) != parts.end()) numbers.insert(numbers.end(), at, end + 1);
-    at = end + 1;
-  }
-}
-
-void Unrolling::give_held(uint32_t frame, uint32_t port) {
-  Read &read = frames[frame].reads[port];
-  if (read.is_held) return;
-  read.is_held = true;
-  std::vector<int32_t> numbers;
-  append_part(numbers, frame, MARRUBIGAI_CLOSING, 0, port, {Part::of_held});
-  give_read(numbers, frame, port);
-}
-
-// at least so many pairs; the closing is as one more
-void Unrolling::give_pairs(uint32_t frame, uint32_t port, uint32_t count) {
-  if (frames[frame].reads[port].is_closed) return;
-  std::vector<int32_t> numbers;
-  while (frames[frame].reads[port].pairs < std::min(count, frame)) {
-    uint32_t j = frame - ++frames[frame].reads[port].pairs;
-    numbers.clear();
-    append_part(numbers, frame, MARRUBIGAI_PAIR, j, port, {Part::of_rest});
-    give_read(numbers, frame, port);
-  }
-  if (count <= frame) return;
-  numbers.clear();
-  for (uint32_t j = 0; chip.net.unknown_start && j < frame; j++) { // two reads of the start are about the closing of both
-    if (!frames[j].reads[port].is_open) open_read(j, port);
-    give_pairs(j, port, j + 1);
-    append_part(numbers, frame, MARRUBIGAI_PAIR, j, port, {Part::of_start});
-  }
-  give_read(numbers, frame, port);
-  give_held(frame, port);
-  frames[frame].reads[port].is_closed = true;
-  numbers.clear();
-  append_part(numbers, frame, MARRUBIGAI_CLOSING, 0, port, {Part::of_rest});
-  give_read(numbers, frame, port);
-}
-
-// A read is mostly given as much as that of the frame before.
-void Unrolling::give_opened() {
-  while (!opened.empty()) {
-    auto [frame, port] = opened.back();
-    opened.pop_back();
-    Read before;
-    if (frame > 0) before = frames[frame - 1].reads[port];
-    if (before.is_held) give_held(frame, port);
-    give_pairs(frame, port, before.is_closed ? frame + 1 : before.pairs);
   }
 }
 
@@ -258,20 +180,19 @@ void Unrolling::add_lemma(std::initializer_list<int32_t> literals) {
 // What is left of a clause: the literals that its own are the same as. Whether it is not true anyway.
 bool Unrolling::map(const int32_t *begin, const int32_t *end) {
   clause.clear();
-  changed = false;
+  merged = false;
   for (; begin != end; begin++) {
     int32_t literal = find(*begin);
     if (literal == TRUE || std::find(clause.begin(), clause.end(), -literal) != clause.end()) return false;
-    changed |= literal != *begin;
     if (literal == -TRUE) continue;
     if (std::find(clause.begin(), clause.end(), literal) == clause.end()) clause.push_back(literal);
-    else changed = true;
+    else merged = true;
   }
   return true;
 }
 
 void Unrolling::give_mapped() {
-  if (changed && refutation) { // a refutation is spared the way through the literals of the clause as it was
+  if (merged) { // by the clause as it was, nothing propagates while two literals are open
     lemmas.insert(lemmas.end(), clause.begin(), clause.end());
     lemmas.push_back(0);
   }
@@ -304,10 +225,8 @@ void Unrolling::flush() {
   held.clear();
 }
 
-void Unrolling::give_clause(std::initializer_list<int32_t> literals, bool is_changed) {
-  if (!map(literals.begin(), literals.end())) return;
-  changed |= is_changed;
-  give_mapped();
+void Unrolling::give_clause(std::initializer_list<int32_t> literals) {
+  if (map(literals.begin(), literals.end())) give_mapped();
 }
 
 // It is the same as this literal, which is the same as no other. The lemmas say so where propagation alone does not, and spare a refutation the way
@@ -335,10 +254,9 @@ void Unrolling::give_gate(int32_t gate, int32_t a, int32_t b) {
       make_same(gate, find(known));
     } else {
       known = gate;
-      bool mapped = (x != a && x != b) || (y != a && y != b);
-      give_clause({-gate, x}, mapped);
-      give_clause({-gate, y}, mapped);
-      give_clause({gate, -x, -y}, mapped);
+      give_clause({-gate, x});
+      give_clause({-gate, y});
+      give_clause({gate, -x, -y});
     }
   }
 }
@@ -348,12 +266,9 @@ void Unrolling::give_gate(int32_t gate, int32_t a, int32_t b) {
 const int32_t *Unrolling::give_bit(const int32_t *at, const int32_t *end) {
   int32_t e = *at;
   std::vector<std::vector<int32_t>> left;
-  std::vector<bool> left_changed;
   for (; at != end && *at == e; at = end_of(at) + 1)
-    if (map(at, end_of(at))) {
-      left.push_back(clause);
-      left_changed.push_back(changed);
-    }
+    if (map(at, end_of(at))) left.push_back(clause);
+  merged = false;
   if (left.empty()) {
     same[e] = -TRUE; // E's clause says nothing
   } else if (left.size() == 1 && left[0].size() == 2) {
@@ -362,9 +277,8 @@ const int32_t *Unrolling::give_bit(const int32_t *at, const int32_t *end) {
     add_lemma({e});
     same[e] = TRUE;
   } else {
-    for (size_t each = 0; each < left.size(); each++) {
-      clause = left[each];
-      changed = left_changed[each];
+    for (std::vector<int32_t> &each : left) {
+      clause = each;
       give_mapped();
     }
   }
@@ -397,62 +311,33 @@ void Unrolling::give(const int32_t *at, const int32_t *end) {
     }
     if (map(at, first)) {
       std::vector<int32_t> former = clause;
-      bool former_changed = changed;
+      bool former_merged = merged;
       // (x y) (x -y): x
       if (former.size() == 2 && second != end && map(first + 1, second) && clause.size() == 2 && clause[0] == former[0] && clause[1] == -former[1]) {
         add_lemma({former[0]});
         clause = {former[0]};
-        changed = false;
+        merged = false;
         give_mapped();
         at = second + 1;
         continue;
       }
       clause = former;
-      changed = former_changed;
+      merged = former_merged;
       give_mapped();
     }
     at = first + 1;
   }
 }
 
-// The lemmas stand before what the solver makes of the clauses that it is given.
-void Unrolling::tell_lemmas(uint64_t place) {
+int32_t Unrolling::ask(int32_t literal) {
+  uint64_t place = refutation ? refutation->place(solver) : 0; // the lemmas stand before what the solver makes of the clauses that it is given
+  if (!same[variable_of(literal)]) demand(variable_of(literal));
   if (refutation && !lemmas.empty()) refutation->add(place, lemmas);
   lemmas.clear();
-}
-
-int32_t Unrolling::ask(int32_t literal) {
-  uint64_t place = refutation ? refutation->place(solver) : 0;
-  if (!same[variable_of(literal)]) demand(variable_of(literal));
-  give_opened();
-  tell_lemmas(place);
   literal = find(literal);
   note(literal);
   flush();
-  return literal == -TRUE ? 0 : solvers(literal);
-}
-
-bool Unrolling::refine(const std::vector<Goal> &goals) {
-  ModelValues model{[&](uint32_t frame, uint32_t wire) { return model_value(static_cast<int32_t>(records[frame].base + wire)); },
-                    [&](uint32_t frame, uint32_t port) { return frames[frame].reads[port].is_open; }};
-  Refinement made = refinement_of(chip, records.back().frame, goals, model);
-  run = std::move(made.run);
-  if (made.spurious.empty()) return false;
-  uint64_t place = refutation ? refutation->place(solver) : 0;
-  bool has_more = false;
-  for (const SpuriousRead &read : made.spurious) {
-    const Read &now = frames[read.frame].reads[read.port], before = now;
-    if (read.reads) give_pairs(read.frame, read.port, read.pairs <= FEW ? read.pairs : read.frame + 1);
-    else give_held(read.frame, read.port);
-    has_more = has_more || now.pairs > before.pairs || now.is_held != before.is_held || now.is_closed != before.is_closed;
-  }
-  if (!has_more)
-    throw Failure("The solver's model does not make the clauses true that it was given. The solver is wrong: nothing that it says of this chip can be "
-                  "relied on.");
-  give_opened();
-  tell_lemmas(place);
-  flush();
-  return true;
+  return solvers(literal);
 }
 
 std::vector<bool> Unrolling::left_out() const {
@@ -461,20 +346,9 @@ std::vector<bool> Unrolling::left_out() const {
   return made;
 }
 
-std::vector<bool> Unrolling::replaced() const {
-  std::vector<bool> made(same.size());
-  for (size_t variable = 0; variable < made.size(); variable++) made[variable] = same[variable] && variable_of(same[variable]) != variable;
-  return made;
-}
-
-bool Unrolling::model_value(int32_t literal) const {
+bool Unrolling::value(int32_t literal) const {
   if (!same[variable_of(literal)]) return false;
   literal = find(literal);
   int32_t known = given[variable_of(literal)];
   return known && solver.val(literal < 0 ? -known : known) > 0;
-}
-
-bool Unrolling::value(int32_t literal) const {
-  Origin of = origin(variable_of(literal));
-  return run[of.frame][of.wire] == (literal > 0);
 }

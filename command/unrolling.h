@@ -1,7 +1,6 @@
-// The clauses of the frames as a solver is given them: only those that what is asked about depends on (cone of influence), of a read only as many as
-// models have shown to be needed (abstraction refinement), and with literals that are the same put for each other, also gates with the same operands
-// in different frames (structural hashing). What propagates by them propagates by the clauses of the formula and the lemmas that are told here, so
-// that what refutes them refutes the formula.
+// The clauses of the frames as a solver is given them: only those that what is asked about depends on (cone of influence), and with literals that
+// are the same put for each other, also gates with the same operands in different frames (structural hashing). What propagates by them propagates by
+// the clauses of the formula and the lemmas that are told here, so that what refutes them refutes the formula.
 #pragma once
 
 #include <cadical.hpp>
@@ -12,7 +11,6 @@
 #include <vector>
 
 #include "chip.h"
-#include "refinement.h"
 #include "refutation.h"
 
 class Unrolling {
@@ -26,18 +24,13 @@ public:
   const std::vector<marrubigai_position> &positions() const { return records; }
   // the formula's literal of a code in a frame
   int32_t literal(marrubigai_code code, const marrubigai_position &position) const;
-  // The solver's literal for one of the formula; it is given what this depends on. 0 where the literal is false by that alone.
+  // The solver's literal for one of the formula; it is given all that this depends on.
   int32_t ask(int32_t literal);
-  // The solver is given more of the reads that its model gets wrong. False where there is none on which all goals that are true in the model depend:
-  // then one is true in a run of the chip, which `value` tells.
-  bool refine(const std::vector<Goal> &goals);
   // a variable that the solver has not yet, for a purpose outside the formula
   int32_t new_variable();
   // by variable of the formula: nothing that was asked depends on it
   std::vector<bool> left_out() const;
-  // by variable: another literal is given in its place
-  std::vector<bool> replaced() const;
-  // of an input or a read bit, as a literal of the formula, in the run
+  // a literal of the formula in the solver's model
   bool value(int32_t literal) const;
 
 private:
@@ -45,15 +38,10 @@ private:
   struct Range {
     uint32_t begin = 0, end = 0;
   };
-  // What is given of a port's read: its bits, what they are where it does not read, so many pairs, the newest first, and the closing behind them.
-  struct Read {
-    bool is_open = false, is_held = false, is_closed = false;
-    uint32_t pairs = 0;
-  };
   struct Frame {
     std::vector<int32_t> wires; // the group's numbers
     std::vector<Range> ranges; // by wire
-    Read reads[2]; // by port
+    std::vector<int32_t> reads[2]; // the numbers of pairs and closing of a port, while they are needed
   };
   // Whose clauses define a variable.
   struct Origin {
@@ -71,32 +59,22 @@ private:
   std::vector<int32_t> given; // by variable: the solver's literal for it, or 0
   int32_t last_given = 0;
   std::unordered_map<uint64_t, int32_t> gates; // by operands
-  std::vector<std::pair<uint32_t, uint32_t>> opened; // frames and ports whose reads were opened, and are given no more yet
   std::vector<uint32_t> noted; // variables that the solver gets next
   std::vector<int32_t> held; // clauses that the solver gets next, each ended by 0
   std::vector<int32_t> lemmas; // that the refutation gets next
-  std::vector<std::vector<bool>> run; // by frame and wire
-  std::vector<int32_t> room, clause; // of a group; what is left of a clause, and whether that is no clause of the formula
-  bool changed = false;
+  std::vector<int32_t> room, clause; // of a group; what is left of a clause, and whether it had one literal twice
+  bool merged = false;
 
   Origin origin(uint32_t variable) const;
   uint32_t part_of_pair(uint32_t variable) const; // by RULES V5, from 1 on
   void append_group(std::vector<int32_t> &numbers, uint32_t frame, uint32_t kind, uint32_t j, uint32_t port);
   void write_wires(uint32_t frame);
-  bool is_own(uint32_t variable, uint32_t frame, uint32_t port) const;
-  bool is_of_frame(uint32_t variable, uint32_t frame) const { return variable > records[frame].base; }
+  const std::vector<int32_t> &reads(uint32_t frame, int port);
+  bool is_own(uint32_t variable, uint32_t frame, int port) const;
   void demand(uint32_t variable);
-  void open_read(uint32_t frame, uint32_t port);
-  enum class Part { of_start, of_held, of_rest };
-  void append_part(std::vector<int32_t> &numbers, uint32_t frame, uint32_t kind, uint32_t j, uint32_t port, std::initializer_list<Part> parts);
-  void give_read(const std::vector<int32_t> &numbers, uint32_t frame, uint32_t port);
-  void give_held(uint32_t frame, uint32_t port);
-  void give_pairs(uint32_t frame, uint32_t port, uint32_t count);
-  void give_opened();
 
   int32_t find(int32_t literal) const; // the literal that it is the same as
   int32_t solvers(int32_t literal) const;
-  bool model_value(int32_t literal) const;
   bool is_fresh(int32_t variable) const; // not given, and the same as no other
   void make_same(int32_t variable, int32_t literal);
   void add_lemma(std::initializer_list<int32_t> literals);
@@ -105,8 +83,7 @@ private:
   void give_gate(int32_t gate, int32_t a, int32_t b);
   const int32_t *give_bit(const int32_t *at, const int32_t *end);
   void give_mapped();
-  void give_clause(std::initializer_list<int32_t> literals, bool is_changed);
+  void give_clause(std::initializer_list<int32_t> literals);
   void note(int32_t literal);
-  void tell_lemmas(uint64_t place);
   void flush();
 };

@@ -340,8 +340,6 @@ says "a run that breaks needs no others" 10 "chip.v: assert chip.v:11 is broken 
 check "a run that breaks needs no others: no warning" same 1 "$(wc -l < "$work/out")"
 says "assumptions that are contrary" 1 "chip.v: no run meets the assumptions in frame 0: nothing can be said of the design." 's/^endmodule/always @* assume (we); always @* assume (!we); endmodule/'
 says "a reset the wrong way round" 1 "chip.v: no run meets the assumptions in frame 0: nothing can be said of the design." 's/^endmodule/reg first = 1; always @(posedge clock) first <= 0; always @* assume (reset == !first); endmodule/' --reset reset
-says "contrary assumptions and a certificate" 1 "chip.v: no run meets the assumptions in frame 0: nothing can be said of the design." 's/^endmodule/always @* assume (we); always @* assume (!we); endmodule/' --certificate "$work/contrary"
-check "contrary assumptions and a certificate: none is written" test ! -e "$work/contrary"
 # arrays of a struct type, which yosys reads as one word; and what only looks like one
 typed() { # what, the start of the message, lines of SystemVerilog
   printf '%s\n' "$3" > "$work/files/typed.sv"
@@ -393,9 +391,6 @@ alone=yes says "an index beyond the array" 20 "chip.v: assert chip.v:11 holds in
 alone=yes says "an array that begins at 1" 10 "chip.v: assert chip.v:11 is broken in frame 2 at the earliest" 's/0:3/1:3/; s/i = 0; i < 4/i = 1; i < 4/; s/if (we)/if (we \& a == 3)/'
 says "contents that differ" 1 "memory mem (chip.v:2) begins with contents that differ from word to word" 's/= 5/= i/'
 says "no memory" 1 "chip: the design has no memory that is written and read" 's/mem\[a\]/mem[0]/; s/if (we) mem\[a\]/last/'
-says "a write in a block with an asynchronous reset" 1 "chip: the design has no memory that is written and read, and this engine is for chips with one.
-An array that yosys dissolves into registers is none: one whose every index is a constant, or that is written in a block with an
-asynchronous reset" 's/always @(posedge clock) begin/always @(posedge clock or posedge reset) if (reset) last <= 0; else begin/'
 says "an address from the word read" 1 "chip.v:2: the address of memory mem depends on a word that it reads in the same frame." 's/mem\[a\]/mem[at]/; s/wire \[3:0\] q/wire [3:0] q; wire [1:0] at = d[0] ? q[1:0] : a; assign q/'
 # addresses that have one port of the sheet in turn
 in_turn() { # how many, what, status, the verdict, what sed changes, options ..
