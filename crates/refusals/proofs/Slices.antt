@@ -5,7 +5,7 @@ use lib.Dec.{ltb}
 use borrow.Author.Tests.{ltb-false, le-ltb, lt-ltb}
 use Rattle.refusals.specs.Slices.{test_room}
 use Rattle.refusals.specs.declared.Refusal.TheVariants.{NoRoom}
-use Rattle.refusals.specs.declared.Verdict.TheVariants.{Passed, Refused}
+use Rattle.refusals.specs.Verdict.{Passed, refuse}
 use Rattle.refusals.proofs.Tests.{refuse_if-passes}
 
 module _ (need room : ℕ) where
@@ -13,7 +13,7 @@ module _ (need room : ℕ) where
   unfolding test_room
   room-enough h = rw (le-ltb room need h)
 
-  pub room-short : room < need → test_room need room ≡ Refused NoRoom 0
+  pub room-short : room < need → test_room need room ≡ refuse NoRoom 0
   unfolding test_room
   room-short h = rw (lt-ltb room need h)
 

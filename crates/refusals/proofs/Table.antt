@@ -5,10 +5,10 @@ use mathlib.Core.Path.{◌≡◌, refl, ap, sym, ◌∙◌}
 use mathlib.Core.Bool.{cond}
 use native.Mathlib.Omega.{arith}
 use lib.Dec.{eqb}
+use Rattle.std.specs.Prelude.{Ok, Err}
 use Rattle.refusals.specs.Refusal.{refusal_number, reply_of}
 use Rattle.refusals.specs.declared.Refusal.{Refusal}
-use Rattle.refusals.specs.declared.Verdict.{Verdict}
-use Rattle.refusals.specs.declared.Verdict.TheVariants.{Passed, Refused}
+use Rattle.refusals.specs.Verdict.{Verdict, Passed, refuse}
 use Rattle.refusals.specs.declared.Reply.{Reply}
 use Rattle.refusals.specs.declared.Refusal.TheVariants.{Ragged, Misprint, OutOfOrder, Size, CodeOutside, MemoryLoop, Depth, NoSuchGroup, NoRoom, NotAiger, Interface, Undefined, NoAnswer, NoViolation, WrongBase, TiedAddress, SecondPort, Reset}
 
@@ -35,8 +35,8 @@ refusal_number-some Reset = omega arith
 
 -- so number 0 is sent back where no test refuses
 pub reply-passed : (v : Verdict) → (reply_of v).number ≡ 0 → v ≡ Passed
-reply-passed Passed h = refl
-reply-passed (Refused r p) h = absurd (omega (arith, refusal_number-some r))
+reply-passed (Ok _) h = refl
+reply-passed (Err e) h = absurd (omega (arith, refusal_number-some e.0))
 
 -- the refusal that has a number, and the verdict that sends back a number and a place
 abbrev refusal_of : ℕ → Refusal
@@ -60,28 +60,31 @@ refusal_of n =
     (cond (eqb n 18) SecondPort Reset))))))))))))))))
 
 abbrev verdict_of : Reply → Verdict
-verdict_of r = cond (eqb r.number 0) Passed (Refused (refusal_of r.number) r.place)
+verdict_of r = cond (eqb r.number 0) Passed (refuse (refusal_of r.number) r.place)
+
+verdict_of-refused : (r : Refusal) (p : ℕ) → verdict_of (reply_of (refuse r p)) ≡ refuse r p
+verdict_of-refused Ragged p = refl
+verdict_of-refused Misprint p = refl
+verdict_of-refused OutOfOrder p = refl
+verdict_of-refused Size p = refl
+verdict_of-refused CodeOutside p = refl
+verdict_of-refused MemoryLoop p = refl
+verdict_of-refused Depth p = refl
+verdict_of-refused NoSuchGroup p = refl
+verdict_of-refused NoRoom p = refl
+verdict_of-refused NotAiger p = refl
+verdict_of-refused Interface p = refl
+verdict_of-refused Undefined p = refl
+verdict_of-refused NoAnswer p = refl
+verdict_of-refused NoViolation p = refl
+verdict_of-refused WrongBase p = refl
+verdict_of-refused TiedAddress p = refl
+verdict_of-refused SecondPort p = refl
+verdict_of-refused Reset p = refl
 
 verdict_of-reply : (v : Verdict) → verdict_of (reply_of v) ≡ v
-verdict_of-reply Passed = refl
-verdict_of-reply (Refused Ragged p) = refl
-verdict_of-reply (Refused Misprint p) = refl
-verdict_of-reply (Refused OutOfOrder p) = refl
-verdict_of-reply (Refused Size p) = refl
-verdict_of-reply (Refused CodeOutside p) = refl
-verdict_of-reply (Refused MemoryLoop p) = refl
-verdict_of-reply (Refused Depth p) = refl
-verdict_of-reply (Refused NoSuchGroup p) = refl
-verdict_of-reply (Refused NoRoom p) = refl
-verdict_of-reply (Refused NotAiger p) = refl
-verdict_of-reply (Refused Interface p) = refl
-verdict_of-reply (Refused Undefined p) = refl
-verdict_of-reply (Refused NoAnswer p) = refl
-verdict_of-reply (Refused NoViolation p) = refl
-verdict_of-reply (Refused WrongBase p) = refl
-verdict_of-reply (Refused TiedAddress p) = refl
-verdict_of-reply (Refused SecondPort p) = refl
-verdict_of-reply (Refused Reset p) = refl
+verdict_of-reply (Ok _) = refl
+verdict_of-reply (Err e) = verdict_of-refused e.0 e.1
 
 -- so a verdict is known by what it sends back
 pub reply-tells : (v w : Verdict) → reply_of v ≡ reply_of w → v ≡ w

@@ -8,15 +8,15 @@ use native.Mathlib.Nat.{le_refl, le-suc_iff}
 use native.Mathlib.Decide.{le_ind, dec_lt}
 use native.Mathlib.Omega.{arith}
 use lib.Dec.{ltb}
+use Rattle.std.specs.Prelude.{Ok, Err}
 use borrow.Author.Tests.{lt-ltb, le-ltb}
 use Rattle.model.specs.Search.{IsFirst}
 use Rattle.refusals.specs.Tests.{refuse_if, ◌then◌, in_order}
 use Rattle.refusals.specs.declared.Refusal.{Refusal}
-use Rattle.refusals.specs.declared.Verdict.{Verdict}
-use Rattle.refusals.specs.declared.Verdict.TheVariants.{Passed, Refused}
+use Rattle.refusals.specs.Verdict.{Verdict, Passed, refuse}
 
 -- a refusal is not a pass
-pub refused-not-passed : {r : Refusal} {p : ℕ} → Refused r p ≡ Passed → ⊥
+pub refused-not-passed : {r : Refusal} {p : ℕ} → refuse r p ≡ Passed → ⊥
 refused-not-passed e = let z : ◌≡◌ {A = ℕ} 0 1 = cc in omega arith
 
 -- one test passes where its condition does not hold
@@ -27,8 +27,8 @@ refuse_if-passes false r p = (λ e. refl, λ e. refl)
 -- two tests pass where each does
 pub then-passes : (v w : Verdict) → (v then w ≡ Passed) ↔ ((v ≡ Passed) × (w ≡ Passed))
 unfolding ◌then◌
-then-passes Passed w = (λ e. (refl, e), λ h. h.1)
-then-passes (Refused r p) w = (λ e. absurd (refused-not-passed e), λ h. absurd (refused-not-passed h.0))
+then-passes (Ok _) w = (λ e. (refl, e), λ h. h.1)
+then-passes (Err e) w = (λ h. absurd (refused-not-passed h), λ h. absurd (refused-not-passed h.0))
 
 -- after a pass the rest decides
 pub passed_then : (w : Verdict) → Passed then w ≡ w
@@ -49,10 +49,10 @@ module _ (test : ℕ → Verdict) where
   in_order-suc n e = rw e
 
   -- places after a refusal change nothing
-  pub in_order-kept : (k n : ℕ) {r : Refusal} {p : ℕ} → k ≤ n → in_order test k ≡ Refused r p → in_order test n ≡ Refused r p
+  pub in_order-kept : (k n : ℕ) {r : Refusal} {p : ℕ} → k ≤ n → in_order test k ≡ refuse r p → in_order test n ≡ refuse r p
   unfolding in_order ◌then◌
   in_order-kept k n {r} {p} l e =
-      le_ind (λ (j : ℕ). in_order test j ≡ Refused r p) e (λ j m h. rw h) n l
+      le_ind (λ (j : ℕ). in_order test j ≡ refuse r p) e (λ j m h. rw h) n l
 
   -- the tests of all places pass where each does
   pub in_order-passes : (n : ℕ) → (in_order test n ≡ Passed) ↔ ((p : ℕ) → 1 ≤ p → p ≤ n → test p ≡ Passed)

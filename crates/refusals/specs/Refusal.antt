@@ -1,10 +1,9 @@
 -- The numbers of the refusals (RULES T1 to T19): the only place that has them. Cited by `number`, `reply_of` and every
 -- definition of what is sent back.
-use Rattle.std.specs.Prelude.{ℕ}
+use Rattle.std.specs.Prelude.{ℕ, Ok, Err}
 use Rattle.refusals.specs.declared.Refusal.{Refusal}
 use Rattle.refusals.specs.declared.Refusal.TheVariants.{Ragged, Misprint, OutOfOrder, Size, CodeOutside, MemoryLoop, Depth, NoSuchGroup, NoRoom, NotAiger, Interface, Undefined, NoAnswer, NoViolation, WrongBase, TiedAddress, SecondPort, Reset}
-use Rattle.refusals.specs.declared.Verdict.{Verdict}
-use Rattle.refusals.specs.declared.Verdict.TheVariants.{Passed, Refused}
+use Rattle.refusals.specs.Verdict.{Verdict}
 use Rattle.refusals.specs.declared.Reply.{Reply}
 
 -- the number of each word; 10 is not used again (RULES T10)
@@ -30,5 +29,5 @@ refusal_number Reset = 19
 
 -- RULES T43: "A refusal returns its number and place"; where nothing is refused both are 0
 abbrev pub reply_of : Verdict → Reply
-reply_of Passed = record { number = 0; place = 0 }
-reply_of (Refused r p) = record { number = refusal_number r; place = p }
+reply_of (Ok _) = record { number = 0; place = 0 }
+reply_of (Err e) = record { number = refusal_number e.0; place = e.1 }

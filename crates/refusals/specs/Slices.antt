@@ -7,7 +7,7 @@ use Rattle.refusals.specs.Refusal.{reply_of}
 use Rattle.refusals.specs.Tests.{refuse_if, if_passed}
 use Rattle.refusals.specs.declared.Refusal.TheVariants.{NoRoom}
 use Rattle.refusals.specs.declared.CountReply.{CountReply}
-use Rattle.refusals.specs.declared.Verdict.{Verdict}
+use Rattle.refusals.specs.Verdict.{Verdict}
 
 -- RULES T9: "a lent slice or list that is to be written is shorter than the exact need. Place 0"
 unfoldable pub test_room : ℕ → ℕ → Verdict

@@ -27,12 +27,12 @@ pub enum Refusal {
     Reset,
 }
 
-// What a chain of tests answers: none refuses, or the first that does, with its place (0: none).
+// A refusal with its place (0: none).
 #[derive(Clone, Copy)]
-pub enum Verdict {
-    Passed,
-    Refused(Refusal, u32),
-}
+pub struct Refused(pub Refusal, pub u32);
+
+// What a chain of tests answers: none refuses, or the first that does.
+pub type Verdict = Result<(), Refused>;
 
 // A verdict in numbers (RULES N9), both 0 where no test refuses.
 #[derive(Clone, Copy)]
@@ -82,11 +82,11 @@ pub fn reply_of(verdict: Verdict) -> Reply
     ensures { result ≡ reply_of verdict }
 {
     match verdict {
-        Verdict::Passed => Reply {
+        Ok(()) => Reply {
             number: 0,
             place: 0,
         },
-        Verdict::Refused(refusal, place) => Reply {
+        Err(Refused(refusal, place)) => Reply {
             number: number(refusal),
             place,
         },
