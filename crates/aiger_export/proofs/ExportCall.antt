@@ -8,12 +8,12 @@ use native.Mathlib.Omega.{arith}
 use lib.Dec.{eqb, ltb}
 use borrow.Author.Tests.{eq-eqb, ltb-false}
 use mathlib.Core.Bool.{true≢false}
+use Rattle.refusals.specs.Verdict.{Passed}
 use Rattle.model.specs.Netlist.{Netlist}
 use Rattle.model.specs.Acceptance.{Accepted}
 use Rattle.model.specs.Search.{first_where}
 use Rattle.model.proofs.Search.{first_where-is}
 use Rattle.refusals.specs.declared.Refusal.TheVariants.{OutOfOrder, Reset}
-use Rattle.refusals.specs.declared.Verdict.TheVariants.{Passed}
 use Rattle.refusals.proofs.Tests.{first_passes, rest-passes, refuse_if-passes}
 use Rattle.netlist.specs.Places.{memory_line, latch_line}
 use Rattle.netlist_tests.specs.Record.{record_verdict}

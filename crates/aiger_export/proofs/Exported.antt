@@ -2,9 +2,9 @@
 use Prim.Native.Nat.{ℕ}
 use mathlib.Core.Path.{◌≡◌}
 use mathlib.Core.Bool.{Bool}
+use Rattle.refusals.specs.Verdict.{Passed}
 use Rattle.model.specs.Netlist.{Netlist}
 use Rattle.model.specs.Circuit.{Values}
-use Rattle.refusals.specs.declared.Verdict.TheVariants.{Passed}
 use Rattle.aiger_graph.specs.Aig.{AigValues, SameInOrder}
 use Rattle.aiger_graph.specs.RecordAig.{record_aig, values_of}
 use Rattle.aiger_graph.proofs.Values.{renumbers-back, renumbered-values, renumbered-same, same_then}

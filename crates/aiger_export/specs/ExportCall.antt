@@ -1,12 +1,12 @@
 -- What a call that exports a record answers and leaves (RULES X7). Cited by `export_binary` and aiger_export/specs/Exported.
 use Rattle.std.specs.Prelude.{ℕ, List, eqb, ltb, length}
+use Rattle.refusals.specs.Verdict.{Verdict}
 use Rattle.model.specs.Netlist.{Netlist}
 use Rattle.model.specs.Search.{first_where}
 use Rattle.refusals.specs.Tests.{refuse_if, ◌then◌}
 use Rattle.refusals.specs.Slices.{test_room, with_count, contents_after}
 use Rattle.refusals.specs.declared.CountReply.{CountReply}
 use Rattle.refusals.specs.declared.Refusal.TheVariants.{OutOfOrder, Reset}
-use Rattle.refusals.specs.declared.Verdict.{Verdict}
 use Rattle.netlist.specs.Places.{memory_line, latch_line}
 use Rattle.netlist_tests.specs.Record.{record_verdict}
 use Rattle.aiger_binary.specs.BinaryText.{aig_text}

@@ -2,10 +2,10 @@
 -- graph the value that it has in the record, and in a text that the record is imported from (RULES X5 and X8). Cited by
 -- `export_binary` and `marrubigai_export`.
 use Rattle.std.specs.Prelude.{ℕ, ◌<◌, ◌≡◌, Bool, List}
+use Rattle.refusals.specs.Verdict.{Passed}
 use Rattle.model.specs.Netlist.{Netlist}
 use Rattle.model.specs.Circuit.{Values}
 use Rattle.model.specs.Agree.{Agree}
-use Rattle.refusals.specs.declared.Verdict.TheVariants.{Passed}
 use Rattle.aiger_graph.specs.Aig.{Aig, AigValues, SameAig, SameInOrder}
 use Rattle.aiger_graph.specs.RecordAig.{record_aig, values_of}
 use Rattle.aiger_binary.specs.BinaryText.{aig_text, Writable}

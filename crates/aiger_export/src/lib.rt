@@ -3,14 +3,13 @@
 
 ghost use Rattle.std.specs.Prelude.{◌≡◌, ◌≤◌, eqb, length};
 ghost use Rattle.model.specs.Search.{first_where};
+ghost use Rattle.refusals.specs.Slices.{count_reply};
 ghost use Rattle.netlist.specs.NetOf.{second_at, net_of};
-ghost use Rattle.dimacs.specs.PrintCalls.{print_reply};
 ghost use Rattle.aiger_export.specs.ExportCall.{test_export, export_sent, export_leaves};
 ghost use Rattle.aiger_export.specs.Exported.{ExportTheorem};
 
-use dimacs::PrintAnswer;
 use netlist::{Netlist, UnpackedList};
-use refusals::{Refusal, Verdict};
+use refusals::{Refusal, Refused, Verdict, Written};
 use text_writer::write_word;
 
 // The first latch with reset 1; `count` where there is none.
@@ -39,18 +38,15 @@ pub fn test_export(
 ) -> Verdict
     ensures { result ≡ test_export (net_of net latches.now gates.now) latch_count gate_count }
 {
-    let record = netlist_tests::test_record(net, latches, latch_count, gates, gate_count);
-    if let Verdict::Refused(_, _) = record {
-        return record;
-    }
+    netlist_tests::test_record(net, latches, latch_count, gates, gate_count)?;
     if 0 < net.second_port {
-        return Verdict::Refused(Refusal::OutOfOrder, 2);
+        return Err(Refused(Refusal::OutOfOrder, 2));
     }
     let l = first_reset(latches, net.latches);
     if l < net.latches {
-        return Verdict::Refused(Refusal::Reset, 3 + l);
+        return Err(Refused(Refusal::Reset, 3 + l));
     }
-    Verdict::Passed
+    Ok(())
 }
 
 // Writes the file of a record into a buffer, and answers its length; or refuses and writes nothing. The file is written aside first: how
@@ -62,24 +58,22 @@ pub fn export_binary(
     gates: &UnpackedList,
     gate_count: usize,
     out: &mut [u8],
-) -> PrintAnswer
-    ensures answer { print_reply result ≡ export_sent (net_of net latches.now gates.now) latch_count gate_count (length out.old) }
+) -> Written
+    ensures answer { count_reply result ≡ export_sent (net_of net latches.now gates.now) latch_count gate_count (length out.old) }
     ensures borrowed { out.new ≡ export_leaves (net_of net latches.now gates.now) latch_count gate_count out.old }
     ensures exported { ExportTheorem }
 {
-    if let Verdict::Refused(refusal, place) = test_export(
+    test_export(
         net,
         latches,
         latch_count,
         gates,
         gate_count,
-    ) {
-        return PrintAnswer::Refused(refusal, place);
-    }
+    )?;
     let mut bytes = [0; 4096];
     let count = aiger_writer::put_file(&mut bytes, net, latches, gates);
     if out.len() < count {
-        return PrintAnswer::Refused(Refusal::NoRoom, 0);
+        return Err(Refused(Refusal::NoRoom, 0));
     }
-    PrintAnswer::Written(write_word(out, &bytes[..count]))
+    Ok(write_word(out, &bytes[..count]))
 }

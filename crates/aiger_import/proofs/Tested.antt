@@ -5,13 +5,12 @@ use mathlib.Core.Path.{◌≡◌, refl, sym, ◌∙◌, ap, subst}
 use mathlib.Core.Bool.{true, false, ◌||◌}
 use mathlib.Core.List.{List, []}
 use lib.Dec.{ltb}
+use Rattle.refusals.specs.Verdict.{Verdict, Passed, refuse}
 use Rattle.model.specs.Acceptance.{SizesFit, WithinLimits}
 use Rattle.model.proofs.Agree.{sizes_fit-same}
 use Rattle.refusals.specs.Tests.{◌then◌}
 use Rattle.refusals.specs.declared.Refusal.{Refusal}
 use Rattle.refusals.specs.declared.Refusal.TheVariants.{Size, CodeOutside, NoRoom}
-use Rattle.refusals.specs.declared.Verdict.{Verdict}
-use Rattle.refusals.specs.declared.Verdict.TheVariants.{Passed, Refused}
 use Rattle.netlist.specs.NetOf.{net_of, alone}
 use Rattle.netlist.specs.RecordOf.{record_of}
 use Rattle.netlist.specs.Places.{line_at}
@@ -98,24 +97,24 @@ module _ (s : List ℕ) (m n word unknown second : ℕ) where
   -- the verdict, by the first test that refuses
   module _ (latch_room gate_room : ℕ) where
     module _ {r : Refusal} {p : ℕ} where
-      pub text-refused : text_verdict s m n second ≡ Refused r p → import_verdict s m n word unknown second latch_room gate_room ≡ Refused r p
+      pub text-refused : text_verdict s m n second ≡ refuse r p → import_verdict s m n word unknown second latch_room gate_room ≡ refuse r p
       unfolding import_verdict ◌then◌
       text-refused e = rw e
 
-      pub sizes-refused : text_verdict s m n second ≡ Passed → test_lines (aag_net s m n word unknown second) Size size_fault ≡ Refused r p
-          → import_verdict s m n word unknown second latch_room gate_room ≡ Refused r p
+      pub sizes-refused : text_verdict s m n second ≡ Passed → test_lines (aag_net s m n word unknown second) Size size_fault ≡ refuse r p
+          → import_verdict s m n word unknown second latch_room gate_room ≡ refuse r p
       unfolding import_verdict ◌then◌
       sizes-refused e f = rw (e, f)
 
       pub port-refused : text_verdict s m n second ≡ Passed → test_lines (aag_net s m n word unknown second) Size size_fault ≡ Passed
-          → test_ports (aag_net s m n word unknown second) ≡ Refused r p → import_verdict s m n word unknown second latch_room gate_room ≡ Refused r p
+          → test_ports (aag_net s m n word unknown second) ≡ refuse r p → import_verdict s m n word unknown second latch_room gate_room ≡ refuse r p
       unfolding import_verdict ◌then◌
       port-refused e f g = rw (e, f, no-five e, g)
 
     module _ (e : text_verdict s m n second ≡ Passed) (f : test_lines (aag_net s m n word unknown second) Size size_fault ≡ Passed)
         (g : test_ports (aag_net s m n word unknown second) ≡ Passed) where
       pub room-refused : lists_short (aag_net s m n word unknown second) latch_room gate_room ≡ true
-          → import_verdict s m n word unknown second latch_room gate_room ≡ Refused NoRoom 0
+          → import_verdict s m n word unknown second latch_room gate_room ≡ refuse NoRoom 0
       unfolding import_verdict ◌then◌
       room-refused k = rw (e, f, no-five e, g, k)
 

@@ -1,9 +1,9 @@
 -- What `marrubigai_import` answers and leaves in the lists that it is lent, for a text s with the caller's m, n, start and second port (RULES I6,
 -- I10, I12 and T55; lists and record as where a sheet is read, T43 to T45). Cited by `import_text` and `marrubigai_import`.
 use Rattle.std.specs.Prelude.{ℕ, List, length}
+use Rattle.refusals.specs.Verdict.{Verdict}
 use Rattle.model.specs.Netlist.{start_of}
 use Rattle.model.specs.Agree.{given_word}
-use Rattle.refusals.specs.declared.Verdict.{Verdict}
 use Rattle.netlist.specs.declared.Netlist.{Netlist}
 use Rattle.sheet_steps.specs.Records.{record_beside}
 use Rattle.call_lists.specs.ListsBeside.{latches_beside, gates_beside}

@@ -1,10 +1,10 @@
 -- What is known of a text once it has passed 11 to 13 and its sizes 4, and the table by which its codes are then renumbered. Cited by the
 -- functions of this crate, and by no public contract.
 use Rattle.std.specs.Prelude.{ℕ, ◌+◌, ◌<◌, ◌≡◌, List, length, get_or}
+use Rattle.refusals.specs.Verdict.{Passed}
 use Rattle.model.specs.Limits.{most_wires}
 use Rattle.model.specs.Netlist as M
 use Rattle.model.specs.Acceptance.{SizesFit}
-use Rattle.refusals.specs.declared.Verdict.TheVariants.{Passed}
 use Rattle.netlist.specs.RecordOf.{record_of}
 use Rattle.netlist.specs.declared.Netlist.{Netlist}
 use Rattle.aiger_lines.specs.Parts.{counts_in}

@@ -14,7 +14,7 @@ ghost use Rattle.aiger_import.specs.Tables.{TextReady, TableFor};
 use aiger_codes::FirstNumbers;
 use aiger_lines::HeaderLine;
 use netlist::{Netlist, UnpackedList};
-use refusals::{Refusal, Verdict};
+use refusals::{Refusal, Refused};
 use sheet_steps::SheetAnswer;
 
 // A table of a text's first numbers by wire, with its outputs behind; and where the lines of its latches and of its gates begin.
@@ -122,24 +122,24 @@ pub fn import_text(
     let given = netlist::given_word(word, unknown);
     let header = aiger_lines::read_header(text);
     let tested = aiger_tests::test_text(text, header, m, n, second_port);
-    if let Verdict::Refused(refusal, line) = tested {
+    if let Err(Refused(refusal, line)) = tested {
         return sheet_steps::refused(refusal, line);
     }
     let sizes = aiger_codes::text_sizes(header.counts, m, n, given, unknown, second_port);
     let sized = netlist_tests::test_sizes(sizes);
-    if let Verdict::Refused(refusal, place) = sized {
+    if let Err(Refused(refusal, place)) = sized {
         return sheet_steps::refused(refusal, place);
     }
     let net = fill(text, header, sizes, latches, gates);
     let port = netlist_tests::test_ports(net, gates);
-    if let Verdict::Refused(refusal, place) = port {
+    if let Err(Refused(refusal, place)) = port {
         return sheet_steps::refused(refusal, place);
     }
     if (latch_room < net.latches as usize) | (gate_room < net.gates as usize) {
         return sheet_steps::refused(Refusal::NoRoom, 0);
     }
     SheetAnswer {
-        verdict: Verdict::Passed,
+        verdict: Ok(()),
         net,
     }
 }

@@ -8,12 +8,12 @@ use native.Mathlib.Decide.{dec_lt}
 use native.Mathlib.Nat.{mul-le-mul_right}
 use native.Mathlib.Omega.{arith}
 use borrow.Author.Tests.{lt-ltb}
+use Rattle.refusals.specs.Verdict.{Passed}
 use Rattle.model.specs.Netlist.{Netlist, gate_wire, last_wire}
 use Rattle.model.specs.Network.{renamed}
 use Rattle.model.specs.Acceptance.{CodesFit}
 use Rattle.model.proofs.Ports.{each-port}
 use Rattle.refusals.specs.declared.Refusal.TheVariants.{CodeOutside}
-use Rattle.refusals.specs.declared.Verdict.TheVariants.{Passed}
 use Rattle.netlist.specs.Faults.{code_fault}
 use Rattle.netlist.proofs.Faults.{codes-fit}
 use Rattle.netlist_tests.specs.Record.{test_lines}

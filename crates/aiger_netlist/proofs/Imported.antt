@@ -4,11 +4,11 @@ use Prim.Native.Nat.{ℕ, ◌≤◌}
 use mathlib.Core.Path.{◌≡◌}
 use mathlib.Core.List.{List}
 use native.Mathlib.Omega.{arith}
+use Rattle.refusals.specs.Verdict.{Passed}
 use Rattle.model.specs.Netlist.{Netlist}
 use Rattle.model.specs.Agree.{Agree}
 use Rattle.model.specs.Acceptance.{Accepted}
 use Rattle.model.proofs.Agree.{latches-same, gates-same, accepted-same}
-use Rattle.refusals.specs.declared.Verdict.TheVariants.{Passed}
 use Rattle.netlist_tests.specs.Record.{record_verdict}
 use Rattle.netlist_tests.proofs.Acceptance.{passes-accepted}
 use Rattle.call_unpacked.proofs.Calls.{calls-encode}

@@ -5,12 +5,12 @@ use mathlib.Core.Bool.{Bool, false, not}
 use mathlib.Core.List.{List}
 use lib.Dec.{eqb, ltb}
 use borrow.Author.Tests.{ltb-false, eqb-true, not-false}
+use Rattle.refusals.specs.Verdict.{Passed}
 use Rattle.model.specs.Acceptance.{Accepted}
 use Rattle.model.proofs.Booleans.{neither-true}
 use Rattle.refusals.specs.Tests.{refuse_if, ◌then◌}
 use Rattle.refusals.specs.declared.Refusal.{Refusal}
 use Rattle.refusals.specs.declared.Refusal.TheVariants.{Size, CodeOutside, NoRoom, NotAiger, Interface, Undefined}
-use Rattle.refusals.specs.declared.Verdict.TheVariants.{Passed}
 use Rattle.refusals.proofs.Tests.{refuse_if-passes, then-passes, in_order-passes}
 use Rattle.netlist.specs.Faults.{size_fault, code_fault}
 use Rattle.netlist.proofs.Faults.{sizes-fit, codes-fit}

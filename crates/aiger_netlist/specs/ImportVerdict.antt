@@ -2,10 +2,10 @@
 -- function tests it: the law `no-code-fault` in proofs/Codes.antt. Cited by `import_text`,
 -- aiger_import/specs/ImportCall and specs/Imported.
 use Rattle.std.specs.Prelude.{ℕ, suc, ◌+◌, ◌-◌, ◌*◌, ◌^◌, min, Bool, not, ◌||◌, List, eqb, ltb}
+use Rattle.refusals.specs.Verdict.{Verdict}
 use Rattle.refusals.specs.Tests.{refuse_if, ◌then◌, in_order}
 use Rattle.refusals.specs.declared.Refusal.{Refusal}
 use Rattle.refusals.specs.declared.Refusal.TheVariants.{Size, CodeOutside, NoRoom, NotAiger, Interface, Undefined}
-use Rattle.refusals.specs.declared.Verdict.{Verdict}
 use Rattle.netlist.specs.Faults.{size_fault, code_fault}
 use Rattle.netlist_tests.specs.Record.{test_lines, test_ports, lists_short}
 use Rattle.aiger_graph.specs.RecordAig.{control_output}

@@ -3,11 +3,11 @@
 -- everything has in d the value that it has in the text (RULES I9); demand 3 holds of the calls over it (RULES A1). The lists of d have
 -- latch_count and gate_count records. Cited by aiger_import/specs/ImportCall.
 use Rattle.std.specs.Prelude.{ℕ, ◌≤◌, ◌≡◌, Bool, List}
+use Rattle.refusals.specs.Verdict.{Passed}
 use Rattle.model.specs.Limits.{most_depth}
 use Rattle.model.specs.Netlist.{Netlist}
 use Rattle.model.specs.Circuit.{Values}
 use Rattle.model.specs.Agree.{Agree}
-use Rattle.refusals.specs.declared.Verdict.TheVariants.{Passed}
 use Rattle.netlist_tests.specs.Record.{record_verdict}
 use Rattle.call_unpacked.specs.Calls.{CallsEncode}
 use Rattle.aiger_graph.specs.Aig.{AigValues, SameInOrder}

@@ -7,7 +7,7 @@ ghost use Rattle.aiger_lines.specs.Steps.{HeaderRead};
 ghost use Rattle.aiger_netlist.specs.ImportVerdict.{place_of, wrong_interface, text_verdict};
 
 use aiger_lines::{Counts, HeaderLine};
-use refusals::{Refusal, Verdict};
+use refusals::{Refusal, Refused, Verdict};
 
 // The place of a line.
 fn place_of(line: u64) -> u32
@@ -59,14 +59,14 @@ pub fn test_text(text: &[u8], header: HeaderLine, m: u32, n: u32, second_port: u
     let sound = aiger_lines::sound_lines(text, header);
     let first = aiger_definitions::first_repeat(text, header, sound);
     if first < due {
-        return Verdict::Refused(Refusal::NotAiger, place_of(first + 1));
+        return Err(Refused(Refusal::NotAiger, place_of(first + 1)));
     }
     if has_wrong_interface(counts, m, n, second_port) {
-        return Verdict::Refused(Refusal::Interface, 0);
+        return Err(Refused(Refusal::Interface, 0));
     }
     let undefined = aiger_definitions::first_undefined(text, header);
     if undefined < due {
-        return Verdict::Refused(Refusal::Undefined, place_of(undefined + 1));
+        return Err(Refused(Refusal::Undefined, place_of(undefined + 1)));
     }
-    Verdict::Passed
+    Ok(())
 }

@@ -1,9 +1,9 @@
 -- What the lent lists hold after a call that reads a netlist c into them, beside its verdict (RULES T45, "only the first L and the first A
 -- records of the lent lists change", and T44, "After a refusal"). Cited by sheet_reader/specs/ReadCall and aiger_import/specs/ImportCall.
 use Rattle.std.specs.Prelude.{ℕ, List}
+use Rattle.refusals.specs.Verdict.{Verdict}
 use Rattle.model.specs.Netlist.{Netlist}
 use Rattle.refusals.specs.Slices.{contents_after}
-use Rattle.refusals.specs.declared.Verdict.{Verdict}
 use Rattle.call_lists.specs.Delivered.{first_records}
 use Rattle.call_lists.specs.declared.LatchEntry.{LatchEntry}
 use Rattle.call_lists.specs.declared.GateEntry.{GateEntry}

@@ -3,10 +3,10 @@ use Prim.Native.Nat.{ℕ}
 use mathlib.Core.Path.{◌≡◌, sym, ◌∙◌, ap}
 use mathlib.Core.List.{List}
 use lib.IntN.{ℤ}
+use Rattle.refusals.specs.Verdict.{Verdict}
 use Rattle.model.specs.Netlist as M
 use Rattle.model.specs.declared.Group.{Group}
 use Rattle.refusals.specs.Tests.{◌then◌}
-use Rattle.refusals.specs.declared.Verdict.{Verdict}
 use Rattle.refusals.proofs.Tests.{passed_then}
 use Rattle.netlist_tests.specs.Record.{record_verdict}
 use Rattle.call_unpacked.specs.Calls.{test_depth, test_group, test_group_room, group_verdict, group_sent, group_leaves}

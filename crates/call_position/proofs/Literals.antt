@@ -8,6 +8,8 @@ use native.Mathlib.Omega.{arith}
 use lib.Dec.{ltb}
 use lib.IntN.{ℤ, neg_ℤ}
 use borrow.Author.Tests.{ltb-false, le-ltb, eq-eqb, ne_eqb}
+use Rattle.std.specs.Prelude.{Ok, Err}
+use Rattle.refusals.specs.Verdict.{Verdict, Passed}
 use Rattle.model.specs.Bits.{odd}
 use Rattle.model.specs.Netlist as M
 use Rattle.model.specs.Netlist.{last_wire}
@@ -17,8 +19,6 @@ use Rattle.model.specs.Variables.{base, code_at, code_in}
 use Rattle.model.specs.Numbers.{literal_number}
 use Rattle.model.proofs.Numbers.{literal_number-neg}
 use Rattle.refusals.specs.declared.Refusal.TheVariants.{Size, CodeOutside}
-use Rattle.refusals.specs.declared.Verdict.{Verdict}
-use Rattle.refusals.specs.declared.Verdict.TheVariants.{Passed, Refused}
 use Rattle.refusals.proofs.Table.{refusal_number-some}
 use Rattle.refusals.proofs.Tests.{refuse_if-passes, then-passes}
 use Rattle.netlist.specs.Faults.{size_fault}
@@ -120,10 +120,10 @@ module _ (c : M.Netlist) (p : Position) (x : ℕ) where
       sent : (v : Verdict) → literal_verdict c p x ≡ v → (with_literal v number).number ≡ 0
           → with_literal (literal_verdict c p (inverse x)) (literal_number (code_in c p.frame (inverse x)))
           ≡ record { number = 0; place = 0; literal = neg_ℤ (with_literal v number).literal }
-      sent Passed e h =
+      sent (Ok _) e h =
           rw (inverse-passes e)
           (ap (with_literal Passed) (ap literal_number (code_at-inverse (base c p.frame) x) ∙ literal_number-neg (code_in c p.frame x)))
-      sent (Refused r q) e h = absurd (omega (arith, refusal_number-some r))
+      sent (Err f) e h = absurd (omega (arith, refusal_number-some f.0))
 
 -- so of any reply that is what is sent
 pub sent-negated : (c : M.Netlist) (p : Position) (x : ℕ) {r : LiteralReply} → r ≡ literal_sent c p x

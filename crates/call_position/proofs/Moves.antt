@@ -3,10 +3,10 @@ use Prim.Native.Nat.{ℕ, ◌+◌}
 use mathlib.Core.Path.{◌≡◌, refl, sym, ◌∙◌, ap}
 use mathlib.Core.List.{List}
 use native.Mathlib.Omega.{arith}
+use Rattle.std.specs.Prelude.{Ok, Err}
+use Rattle.refusals.specs.Verdict.{Verdict, Passed}
 use Rattle.model.specs.Netlist as M
 use Rattle.refusals.specs.Tests.{◌then◌}
-use Rattle.refusals.specs.declared.Verdict.{Verdict}
-use Rattle.refusals.specs.declared.Verdict.TheVariants.{Passed, Refused}
 use Rattle.refusals.proofs.Table.{refusal_number-some}
 use Rattle.refusals.proofs.Tests.{refused-not-passed, rest-passes}
 use Rattle.netlist.specs.NetOf.{net_of, alone}
@@ -58,7 +58,7 @@ module _ (c : M.Netlist) (latch_count gate_count : ℕ) (p : Position) where
   move-stands way = sent (move_verdict c latch_count gate_count p way) refl
     where
       sent : (v : Verdict) → move_verdict c latch_count gate_count p way ≡ v → MoveStands c (with_position v (moved_to c p way) (kept_at p way))
-      sent Passed e h =
+      sent (Ok _) e h =
           moved-stands way
           (rest-passes (test_depth p.depth) _ (rest-passes (record_verdict c latch_count gate_count) _ e))
-      sent (Refused r q) e h = absurd (omega (arith, refusal_number-some r))
+      sent (Err f) e h = absurd (omega (arith, refusal_number-some f.0))

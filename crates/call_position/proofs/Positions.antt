@@ -5,11 +5,11 @@ use mathlib.Core.Bool.{not}
 use mathlib.Core.List.{List}
 use lib.Dec.{eqb, ltb}
 use borrow.Author.Tests.{eq-eqb, eqb-true, le-ltb, ltb-false, not-false}
+use Rattle.refusals.specs.Verdict.{Passed}
 use Rattle.model.specs.Netlist as M
 use Rattle.model.specs.Variables.{base}
 use Rattle.refusals.specs.Tests.{refuse_if, ◌then◌}
 use Rattle.refusals.specs.declared.Refusal.TheVariants.{NoSuchGroup, WrongBase}
-use Rattle.refusals.specs.declared.Verdict.TheVariants.{Passed}
 use Rattle.refusals.proofs.Tests.{refuse_if-passes, then-passes}
 use Rattle.netlist.specs.NetOf.{net_of, alone}
 use Rattle.netlist.specs.declared.Netlist.{Netlist}

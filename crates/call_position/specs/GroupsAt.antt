@@ -1,12 +1,12 @@
 -- A group of a running record's frame (RULES R7 and T51). Cited by `write_group_at` and by the exported function.
 use Rattle.std.specs.Prelude.{ℕ, ◌≡◌, List, ℤ, length}
+use Rattle.refusals.specs.Verdict.{Verdict}
 use Rattle.model.specs.Netlist.{Netlist}
 use Rattle.model.specs.Numbers.{numbers_of}
 use Rattle.model.specs.declared.Group.{Group}
 use Rattle.refusals.specs.Tests.{◌then◌}
 use Rattle.refusals.specs.Slices.{with_count, contents_after}
 use Rattle.refusals.specs.declared.CountReply.{CountReply}
-use Rattle.refusals.specs.declared.Verdict.{Verdict}
 use Rattle.netlist_tests.specs.Record.{record_verdict}
 use Rattle.call_unpacked.specs.Calls.{test_depth, test_group, test_group_room, group_sent, group_leaves}
 use Rattle.call_position.specs.Positions.{test_frame, Stands}

@@ -1,5 +1,6 @@
 -- The literal of a code in a running record's frame (RULES R8 and T52). Cited by `literal_at` and by the exported function.
 use Rattle.std.specs.Prelude.{ℕ, ◌+◌, ◌-◌, ◌*◌, ◌≡◌, cond, ltb, ℤ, pos, neg_ℤ}
+use Rattle.refusals.specs.Verdict.{Verdict}
 use Rattle.model.specs.Netlist.{Netlist, last_wire}
 use Rattle.model.specs.Bits.{odd}
 use Rattle.model.specs.Clauses.{neg}
@@ -8,7 +9,6 @@ use Rattle.model.specs.Numbers.{literal_number}
 use Rattle.refusals.specs.Refusal.{reply_of}
 use Rattle.refusals.specs.Tests.{refuse_if, ◌then◌, if_passed}
 use Rattle.refusals.specs.declared.Refusal.TheVariants.{Size, CodeOutside}
-use Rattle.refusals.specs.declared.Verdict.{Verdict}
 use Rattle.netlist.specs.Faults.{size_fault}
 use Rattle.netlist_tests.specs.Record.{test_lines}
 use Rattle.call_unpacked.specs.Calls.{test_depth}

@@ -1,11 +1,10 @@
 -- The moves of a running record (RULES R2 to R5, R9 and T50). Cited by `move_position` and by the exported function.
 use Rattle.std.specs.Prelude.{ℕ, ◌+◌, ◌≡◌, cond, eqb}
+use Rattle.refusals.specs.Verdict.{Verdict, Passed, refuse}
 use Rattle.model.specs.Netlist.{Netlist}
 use Rattle.refusals.specs.Refusal.{reply_of}
 use Rattle.refusals.specs.Tests.{◌then◌, if_passed}
 use Rattle.refusals.specs.declared.Refusal.TheVariants.{NoSuchGroup}
-use Rattle.refusals.specs.declared.Verdict.{Verdict}
-use Rattle.refusals.specs.declared.Verdict.TheVariants.{Passed, Refused}
 use Rattle.netlist_tests.specs.Record.{record_verdict}
 use Rattle.call_unpacked.specs.Calls.{test_depth}
 use Rattle.call_position.specs.Positions.{at_frame, test_frame, Stands}
@@ -24,7 +23,7 @@ unfoldable pub test_move : Netlist → Position → Move → Verdict
 test_move c p Begin = Passed
 test_move c p On = test_frame c p (p.frame + 1)
 test_move c p Back = test_frame c p p.frame
-test_move c p NoMove = Refused NoSuchGroup 0
+test_move c p NoMove = refuse NoSuchGroup 0
 
 -- RULES T50: "the record with its lists, then 7, 8, 16"
 unfoldable pub move_verdict : Netlist → ℕ → ℕ → Position → Move → Verdict

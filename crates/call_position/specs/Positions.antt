@@ -1,10 +1,10 @@
 -- Where a running record stands, and the tests of that (RULES R1, T8 and T16). Cited by its moves, groups and literals.
 use Rattle.std.specs.Prelude.{ℕ, ◌≤◌, ◌≡◌, not, eqb, ltb}
+use Rattle.refusals.specs.Verdict.{Verdict}
 use Rattle.model.specs.Netlist.{Netlist}
 use Rattle.model.specs.Variables.{base}
 use Rattle.refusals.specs.Tests.{refuse_if, ◌then◌}
 use Rattle.refusals.specs.declared.Refusal.TheVariants.{NoSuchGroup, WrongBase}
-use Rattle.refusals.specs.declared.Verdict.{Verdict}
 use Rattle.call_position.specs.declared.Position.{Position}
 
 -- the record of depth k at frame i

@@ -7,20 +7,20 @@ ghost use Rattle.model.specs.Netlist as M;
 ghost use Rattle.model.specs.Acceptance.{SizesFit};
 ghost use Rattle.model.specs.Variables.{base};
 ghost use Rattle.model.specs.Numbers.{literal_number};
+ghost use Rattle.refusals.specs.Verdict.{Passed, refuse};
+ghost use Rattle.refusals.specs.Slices.{count_reply};
 ghost use Rattle.literals.specs.Lit.{literal_of, IsTerm};
 ghost use Rattle.netlist.specs.NetOf.{net_of, alone};
-ghost use Rattle.call_unpacked.specs.Calls.{group_reply};
 ghost use Rattle.call_replies.specs.Replies.{group_of};
 ghost use Rattle.call_position.specs.Positions.{test_base, test_frame, at_frame};
 ghost use Rattle.call_position.specs.Moves.{move_of, test_move, moved_to, kept_at, with_position, move_sent};
 ghost use Rattle.call_position.specs.GroupsAt.{group_at_sent, group_at_leaves};
 ghost use Rattle.call_position.specs.Literals.{numbering_verdict, literal_verdict, with_literal, literal_sent, InverseNegated};
 
-use call_unpacked::GroupAnswer;
 use literals::{Code, Term};
 use model::Group;
 use netlist::{Netlist, UnpackedList};
-use refusals::{CountReply, Refusal, Verdict};
+use refusals::{CountReply, Refusal, Refused, Verdict, Written};
 
 // A running record: where a caller that goes frame by frame stands.
 #[repr(C)]
@@ -76,9 +76,9 @@ fn test_base(net: Netlist, position: Position) -> Verdict
     ensures { result ≡ test_base (alone net) position }
 {
     if position.base == clause_variables::frame_base(net, position.frame) {
-        return Verdict::Passed;
+        return Ok(());
     }
-    Verdict::Refused(Refusal::WrongBase, 0)
+    Err(Refused(Refusal::WrongBase, 0))
 }
 
 // Refusal 8 of the record's frame, then 16.
@@ -87,7 +87,7 @@ fn test_frame(net: Netlist, position: Position) -> Verdict
     ensures { result ≡ test_frame (alone net) position position.frame }
 {
     if position.depth < position.frame {
-        return Verdict::Refused(Refusal::NoSuchGroup, 0);
+        return Err(Refused(Refusal::NoSuchGroup, 0));
     }
     test_base(net, position)
 }
@@ -98,7 +98,7 @@ fn test_next(net: Netlist, position: Position) -> Verdict
     ensures { result ≡ test_frame (alone net) position (position.frame + 1) }
 {
     if position.depth <= position.frame {
-        return Verdict::Refused(Refusal::NoSuchGroup, 0);
+        return Err(Refused(Refusal::NoSuchGroup, 0));
     }
     test_base(net, position)
 }
@@ -109,10 +109,10 @@ fn test_move(net: Netlist, position: Position, way: Move) -> Verdict
     ensures { result ≡ test_move (alone net) position way }
 {
     match way {
-        Move::Begin => Verdict::Passed,
+        Move::Begin => Ok(()),
         Move::On => test_next(net, position),
         Move::Back => test_frame(net, position),
-        Move::NoMove => Verdict::Refused(Refusal::NoSuchGroup, 0),
+        Move::NoMove => Err(Refused(Refusal::NoSuchGroup, 0)),
     }
 }
 
@@ -142,7 +142,7 @@ fn next(net: Netlist, position: Position) -> Position
 
 // The record after a move that is not refused.
 fn moved(net: Netlist, position: Position, way: Move) -> Position
-    requires { SizesFit (alone net) × (position.depth ≤ 255) × (test_move (alone net) position way ≡ Verdict.Passed) }
+    requires { SizesFit (alone net) × (position.depth ≤ 255) × (test_move (alone net) position way ≡ Passed) }
     ensures { result ≡ moved_to (alone net) position way }
 {
     match way {
@@ -171,7 +171,7 @@ fn kept(position: Position, way: Move) -> Position
 
 // What a refused move answers.
 fn refused_move(refusal: Refusal, place: u32, position: Position, way: Move) -> PositionReply
-    ensures { result ≡ with_position (Verdict.Refused refusal place) position (kept_at position way) }
+    ensures { result ≡ with_position (refuse refusal place) position (kept_at position way) }
 {
     let number = refusals::number(refusal);
     PositionReply {
@@ -194,7 +194,7 @@ pub fn move_position(
     ensures { result ≡ move_sent (net_of net latches.now gates.now) latch_count gate_count position (move_of way) }
 {
     let way = move_of(way);
-    if let Verdict::Refused(refusal, place) = call_unpacked::test_depth(
+    if let Err(Refused(refusal, place)) = call_unpacked::test_depth(
         net,
         latches,
         latch_count,
@@ -204,7 +204,7 @@ pub fn move_position(
     ) {
         return refused_move(refusal, place, position, way);
     }
-    if let Verdict::Refused(refusal, place) = test_move(net, position, way) {
+    if let Err(Refused(refusal, place)) = test_move(net, position, way) {
         return refused_move(refusal, place, position, way);
     }
     PositionReply {
@@ -224,11 +224,11 @@ fn group_at(
     position: Position,
     group: Group,
     out: &mut [i32],
-) -> GroupAnswer
-    ensures answer { group_reply result ≡ group_at_sent (net_of net latches.now gates.now) latch_count gate_count position group (length out.old) }
+) -> Written
+    ensures answer { count_reply result ≡ group_at_sent (net_of net latches.now gates.now) latch_count gate_count position group (length out.old) }
     ensures borrowed { out.new ≡ group_at_leaves (net_of net latches.now gates.now) latch_count gate_count position group out.old }
 {
-    if let Verdict::Refused(refusal, place) = call_unpacked::test_group(
+    call_unpacked::test_group(
         net,
         latches,
         latch_count,
@@ -236,12 +236,8 @@ fn group_at(
         gate_count,
         position.depth,
         group,
-    ) {
-        return GroupAnswer::Refused(refusal, place);
-    }
-    if let Verdict::Refused(refusal, place) = test_frame(net, position) {
-        return GroupAnswer::Refused(refusal, place);
-    }
+    )?;
+    test_frame(net, position)?;
     call_unpacked::write_tested(net, latches, gates, position.depth, group, out)
 }
 
@@ -289,7 +285,7 @@ fn number_of(term: Term) -> i32
 // What is sent back of a literal.
 pub fn answer_literal(term: Term) -> LiteralReply
     requires { IsTerm term }
-    ensures { result ≡ with_literal Verdict.Passed (literal_number (literal_of term)) }
+    ensures { result ≡ with_literal Passed (literal_number (literal_of term)) }
 {
     LiteralReply {
         number: 0,
@@ -300,7 +296,7 @@ pub fn answer_literal(term: Term) -> LiteralReply
 
 // What a refused literal call answers.
 pub fn no_literal(refusal: Refusal, place: u32) -> LiteralReply
-    ensures { result ≡ with_literal (Verdict.Refused refusal place) (pos 0) }
+    ensures { result ≡ with_literal (refuse refusal place) (pos 0) }
 {
     LiteralReply {
         number: refusals::number(refusal),
@@ -313,32 +309,23 @@ pub fn no_literal(refusal: Refusal, place: u32) -> LiteralReply
 pub fn test_numbering(net: Netlist, depth: u32) -> Verdict
     ensures { result ≡ numbering_verdict (alone net) depth }
 {
-    let sizes = netlist_tests::test_sizes(net);
-    if let Verdict::Refused(_, _) = sizes {
-        return sizes;
-    }
+    netlist_tests::test_sizes(net)?;
     if 255 < depth {
-        return Verdict::Refused(Refusal::Depth, 0);
+        return Err(Refused(Refusal::Depth, 0));
     }
-    Verdict::Passed
+    Ok(())
 }
 
 // The tests of a literal call. It looks at no list, so none is lent.
 fn test_literal(net: Netlist, position: Position, code: Code) -> Verdict
     ensures { result ≡ literal_verdict (alone net) position code.0 }
 {
-    let asked = test_numbering(net, position.depth);
-    if let Verdict::Refused(_, _) = asked {
-        return asked;
-    }
-    let place = test_frame(net, position);
-    if let Verdict::Refused(_, _) = place {
-        return place;
-    }
+    test_numbering(net, position.depth)?;
+    test_frame(net, position)?;
     if code.is_above(netlist::last_wire(net)) {
-        return Verdict::Refused(Refusal::CodeOutside, 0);
+        return Err(Refused(Refusal::CodeOutside, 0));
     }
-    Verdict::Passed
+    Ok(())
 }
 
 // The literal of a code in the record's frame.
@@ -346,7 +333,7 @@ pub fn literal_at(net: Netlist, position: Position, code: Code) -> LiteralReply
     ensures answer { result ≡ literal_sent (alone net) position code.0 }
     ensures inverse { InverseNegated (alone net) position code.0 result }
 {
-    if let Verdict::Refused(refusal, place) = test_literal(net, position, code) {
+    if let Err(Refused(refusal, place)) = test_literal(net, position, code) {
         return no_literal(refusal, place);
     }
     answer_literal(code.in_frame(position.base))

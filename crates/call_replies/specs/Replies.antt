@@ -1,11 +1,11 @@
 -- What the numbers of an exported function stand for: a group for four numbers, and the fields of a reply (RULES L5 and L12 to L14). Cited by
 -- the functions of `call_replies` and by the exported functions.
 use Rattle.std.specs.Prelude.{ℕ, cond, ◌&&◌, List, [], eqb, leb}
+use Rattle.refusals.specs.Verdict.{Verdict}
 use Rattle.model.specs.Groups.{group_order}
 use Rattle.model.specs.declared.Group.{Group}
 use Rattle.model.specs.declared.Group.TheVariants.{Wires, Pair, Closing, Property}
 use Rattle.refusals.specs.Refusal.{reply_of}
-use Rattle.refusals.specs.declared.Verdict.{Verdict}
 use Rattle.netlist.specs.declared.Netlist.{Netlist}
 use Rattle.group_order.specs.declared.Next.{Next}
 use Rattle.group_order.specs.declared.Next.TheVariants.{Then, End}

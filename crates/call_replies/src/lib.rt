@@ -2,18 +2,16 @@
 #![tactic(auto)]
 
 ghost use Rattle.std.specs.Prelude.{◌≡◌};
-ghost use Rattle.refusals.specs.Slices.{with_count};
-ghost use Rattle.call_unpacked.specs.Calls.{group_reply, heading_reply};
-ghost use Rattle.dimacs.specs.PrintCalls.{print_reply};
+ghost use Rattle.refusals.specs.Slices.{count_reply};
+ghost use Rattle.call_unpacked.specs.Calls.{heading_reply};
 ghost use Rattle.sheet_parse.specs.LineAnswers.{without_fields, line_sent};
 ghost use Rattle.call_replies.specs.Replies.{group_of, group_numbers, next_numbers, sheet_numbers, header_version};
 
-use call_unpacked::{GroupAnswer, HeadingAnswer, HeadingReply};
-use dimacs::PrintAnswer;
+use call_unpacked::{Heading, HeadingReply};
 use group_order::Next;
 use model::Group;
 use netlist::Netlist;
-use refusals::{CountReply, Refusal, Verdict};
+use refusals::{CountReply, Refused, Written};
 use sheet_parse::{LineAnswer, LineReply};
 use sheet_steps::SheetAnswer;
 
@@ -110,60 +108,36 @@ pub fn version() -> VersionReply
     }
 }
 
-// So many were written.
-fn written(count: usize) -> CountReply
-    ensures { result ≡ with_count Verdict.Passed count }
-{
-    CountReply {
-        number: 0,
-        place: 0,
-        count,
-    }
-}
-
-// None were: the call is refused.
-fn refused(refusal: Refusal, place: u32) -> CountReply
-    ensures { result ≡ with_count (Verdict.Refused refusal place) 0 }
-{
-    CountReply {
-        number: refusals::number(refusal),
-        place,
-        count: 0,
-    }
-}
-
-// A group call's answer in numbers.
-pub fn group_numbers(answer: GroupAnswer) -> CountReply
-    ensures { result ≡ group_reply answer }
+// What a call that writes into a slice answers, in numbers.
+pub fn count_numbers(answer: Written) -> CountReply
+    ensures { result ≡ count_reply answer }
 {
     match answer {
-        GroupAnswer::Written(count) => written(count),
-        GroupAnswer::Refused(refusal, place) => refused(refusal, place),
-    }
-}
-
-// That of a call that prints.
-pub fn print_numbers(answer: PrintAnswer) -> CountReply
-    ensures { result ≡ print_reply answer }
-{
-    match answer {
-        PrintAnswer::Written(count) => written(count),
-        PrintAnswer::Refused(refusal, place) => refused(refusal, place),
+        Ok(count) => CountReply {
+            number: 0,
+            place: 0,
+            count,
+        },
+        Err(Refused(refusal, place)) => CountReply {
+            number: refusals::number(refusal),
+            place,
+            count: 0,
+        },
     }
 }
 
 // A heading call's.
-pub fn heading_numbers(answer: HeadingAnswer) -> HeadingReply
+pub fn heading_numbers(answer: Result<Heading, Refused>) -> HeadingReply
     ensures { result ≡ heading_reply answer }
 {
     match answer {
-        HeadingAnswer::Heading { variables, clauses } => HeadingReply {
+        Ok(Heading { variables, clauses }) => HeadingReply {
             number: 0,
             place: 0,
             variables,
             clauses,
         },
-        HeadingAnswer::Refused(refusal, place) => HeadingReply {
+        Err(Refused(refusal, place)) => HeadingReply {
             number: refusals::number(refusal),
             place,
             variables: 0,

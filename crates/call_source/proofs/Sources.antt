@@ -5,6 +5,7 @@ use mathlib.Core.Bool.{true, not, ◌&&◌}
 use native.Mathlib.Omega.{arith}
 use lib.Dec.{leb, ltb}
 use borrow.Author.Tests.{leb-true, ltb-false, not-false}
+use Rattle.refusals.specs.Verdict.{Passed}
 use Rattle.model.specs.Netlist.{Netlist, Port, ports, IsPort, port, last_wire}
 use Rattle.model.specs.Acceptance.{SizesFit, IsCode}
 use Rattle.model.specs.Variables.{stride, pair_base}
@@ -15,7 +16,6 @@ use Rattle.model.proofs.Booleans.{and-true}
 use Rattle.model.proofs.Joined.{pair-in_depth, closing-in_depth}
 use Rattle.model.proofs.Variables.{pair_base-least, port-within, base-most}
 use Rattle.refusals.specs.declared.Refusal.TheVariants.{NoSuchGroup, CodeOutside}
-use Rattle.refusals.specs.declared.Verdict.TheVariants.{Passed}
 use Rattle.refusals.proofs.Tests.{refuse_if-passes, then-passes}
 use Rattle.literals.specs.Lit.{HasNumber}
 use Rattle.call_position.specs.Literals.{numbering_verdict}

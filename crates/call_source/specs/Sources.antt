@@ -1,6 +1,7 @@
 -- The literal that says where a word that a port reads comes from (RULES L15 and T56): S of a pair, Z of a closing, as `Traced` speaks of them.
 -- Cited by `source_literal` and by the exported function.
 use Rattle.std.specs.Prelude.{ℕ, ◌+◌, ◌*◌, false, not, ◌&&◌, leb, ltb}
+use Rattle.refusals.specs.Verdict.{Verdict}
 use Rattle.model.specs.Netlist.{Netlist, ports, port, last_wire}
 use Rattle.model.specs.Clauses.{Literal, known}
 use Rattle.model.specs.Variables.{pair_literals, closing_literals}
@@ -10,7 +11,6 @@ use Rattle.model.specs.declared.Group.{Group}
 use Rattle.model.specs.declared.Group.TheVariants.{Wires, Pair, Closing, Property}
 use Rattle.refusals.specs.Tests.{refuse_if, ◌then◌}
 use Rattle.refusals.specs.declared.Refusal.TheVariants.{NoSuchGroup, CodeOutside}
-use Rattle.refusals.specs.declared.Verdict.{Verdict}
 use Rattle.call_position.specs.Literals.{numbering_verdict, with_literal}
 use Rattle.call_position.specs.declared.LiteralReply.{LiteralReply}
 

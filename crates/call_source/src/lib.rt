@@ -18,7 +18,7 @@ use clause_variables::Port;
 use literals::Term;
 use model::Group;
 use netlist::Netlist;
-use refusals::{Refusal, Verdict};
+use refusals::{Refusal, Refused, Verdict};
 
 // The port of a pair or a closing, 0 of the others.
 fn port_in(group: Group) -> u32
@@ -43,18 +43,15 @@ fn has_source(ports: u32, depth: u32, group: Group) -> bool
 fn test_source(net: Netlist, depth: u32, group: Group) -> Verdict
     ensures { result ≡ source_verdict (alone net) depth group }
 {
-    let asked = call_position::test_numbering(net, depth);
-    if let Verdict::Refused(_, _) = asked {
-        return asked;
-    }
+    call_position::test_numbering(net, depth)?;
     if !has_source(netlist::port_count(net), depth, group) {
-        return Verdict::Refused(Refusal::NoSuchGroup, 0);
+        return Err(Refused(Refusal::NoSuchGroup, 0));
     }
     let re = clause_variables::port_of(net, port_in(group)).re;
     if re.is_above(netlist::last_wire(net)) {
-        return Verdict::Refused(Refusal::CodeOutside, 0);
+        return Err(Refused(Refusal::CodeOutside, 0));
     }
-    Verdict::Passed
+    Ok(())
 }
 
 // The variable of pair (j, i) at a port that is `offset` behind the e's of the address bits.
@@ -98,7 +95,7 @@ fn source_in(net: Netlist, depth: u32, group: Group) -> Term
 pub fn source_literal(net: Netlist, depth: u32, group: Group) -> LiteralReply
     ensures { result ≡ source_sent (alone net) depth group }
 {
-    if let Verdict::Refused(refusal, place) = test_source(net, depth, group) {
+    if let Err(Refused(refusal, place)) = test_source(net, depth, group) {
         return call_position::no_literal(refusal, place);
     }
     call_position::answer_literal(source_in(net, depth, group))

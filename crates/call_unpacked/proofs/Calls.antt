@@ -10,6 +10,8 @@ use lib.IntN.{ℤ}
 use lib.ListN.{length, take, drop}
 use lib.Seq.{take-append_seam}
 use borrow.Author.Tests.{ltb-false, le-ltb, not-false}
+use Rattle.std.specs.Prelude.{Ok, Err}
+use Rattle.refusals.specs.Verdict.{Verdict, Passed}
 use Rattle.model.specs.Netlist.{Netlist, ports}
 use Rattle.model.specs.Limits.{most_lines}
 use Rattle.model.specs.Acceptance.{SizesFit, Accepted}
@@ -24,8 +26,6 @@ use Rattle.model.proofs.Claim.{encodes}
 use Rattle.model.proofs.Stated.{stated}
 use Rattle.refusals.specs.Tests.{◌then◌}
 use Rattle.refusals.specs.declared.Refusal.TheVariants.{NoSuchGroup}
-use Rattle.refusals.specs.declared.Verdict.{Verdict}
-use Rattle.refusals.specs.declared.Verdict.TheVariants.{Passed, Refused}
 use Rattle.refusals.specs.Slices.{with_count, contents_after}
 use Rattle.refusals.proofs.Tests.{refuse_if-passes, then-passes}
 use Rattle.refusals.proofs.Slices.{room-enough}
@@ -91,8 +91,8 @@ bounded c ok k most =
 -- one test more behind two whose verdict is known
 tests-more : (first second more : Verdict) {v : Verdict} → v ≡ (first then second) → first then second then more ≡ v then more
 unfolding ◌then◌
-tests-more Passed second more e = rw e
-tests-more (Refused r p) second more e = rw e
+tests-more (Ok _) second more e = rw e
+tests-more (Err f) second more e = rw e
 
 module _ (c : Netlist) (latch_count gate_count k : ℕ) where
   -- what the tests of the record and of the depth have shown

@@ -1,7 +1,8 @@
 -- What the calls over a record answer and leave (RULES T40, T41, T43 and G21 to G23). The right-hand sides of
 -- the public contracts, and the subject of the claim about them. Cited by the calls over records, those through a running record, the
 -- reading of a sheet, the import, the replay, and the replies in numbers.
-use Rattle.std.specs.Prelude.{ℕ, ◌+◌, ◌≤◌, ◌≡◌, true, not, List, ltb, ℤ, pos, nat_abs, length, take, get_or}
+use Rattle.std.specs.Prelude.{ℕ, ◌+◌, ◌≤◌, ◌≡◌, true, not, List, ltb, ℤ, pos, nat_abs, length, take, get_or, Result, Ok, Err}
+use Rattle.refusals.specs.Verdict.{Verdict, Passed}
 use Rattle.model.specs.Limits.{most_depth, most_lines}
 use Rattle.model.specs.Netlist.{Netlist, ports}
 use Rattle.model.specs.Variables.{base}
@@ -14,16 +15,12 @@ use Rattle.refusals.specs.Refusal.{reply_of}
 use Rattle.refusals.specs.Tests.{refuse_if, ◌then◌, if_passed}
 use Rattle.refusals.specs.Slices.{test_room, with_count, contents_after}
 use Rattle.refusals.specs.declared.CountReply.{CountReply}
+use Rattle.refusals.specs.declared.Refused.{Refused}
 use Rattle.refusals.specs.declared.Refusal.TheVariants.{Depth, NoSuchGroup}
-use Rattle.refusals.specs.declared.Verdict.{Verdict}
-use Rattle.refusals.specs.declared.Verdict.TheVariants.{Passed, Refused}
 use Rattle.netlist.specs.Places.{control_line}
 use Rattle.netlist_tests.specs.Record.{record_verdict}
-use Rattle.call_unpacked.specs.declared.GroupAnswer.{GroupAnswer}
-use Rattle.call_unpacked.specs.declared.GroupAnswer.TheVariants.{Written}
+use Rattle.call_unpacked.specs.declared.Heading.{Heading}
 use Rattle.call_unpacked.specs.declared.HeadingReply.{HeadingReply}
-use Rattle.call_unpacked.specs.declared.HeadingAnswer.{HeadingAnswer}
-use Rattle.call_unpacked.specs.declared.HeadingAnswer.TheVariants.{Heading}
 
 -- RULES T7: "k is over 255"
 unfoldable pub test_depth : ℕ → Verdict
@@ -50,14 +47,10 @@ heading_verdict c latch_count gate_count k = record_verdict c latch_count gate_c
 unfoldable pub with_heading : Verdict → ℕ → ℕ → HeadingReply
 with_heading w v n = record { number = (reply_of w).number; place = (reply_of w).place; variables = if_passed w v 0; clauses = if_passed w n 0 }
 
--- the answers of both calls in numbers (RULES N9)
-unfoldable pub group_reply : GroupAnswer → CountReply
-group_reply (Written n) = with_count Passed n
-group_reply (GroupAnswer.Refused r p) = with_count (Refused r p) 0
-
-unfoldable pub heading_reply : HeadingAnswer → HeadingReply
-heading_reply (Heading v n) = with_heading Passed v n
-heading_reply (HeadingAnswer.Refused r p) = with_heading (Refused r p) 0 0
+-- the answer of a heading call in numbers (RULES N9)
+unfoldable pub heading_reply : Result Heading Refused → HeadingReply
+heading_reply (Ok h) = with_heading Passed h.variables h.clauses
+heading_reply (Err e) = with_heading (Err e) 0 0
 
 -- what a group call answers, and what it leaves in the slice
 unfoldable pub group_sent : Netlist → ℕ → ℕ → ℕ → Group → ℕ → CountReply

@@ -8,28 +8,20 @@ ghost use Rattle.model.specs.Groups.{in_depth};
 ghost use Rattle.model.specs.Numbers.{numbers_of};
 ghost use Rattle.model.specs.Wrote.{Wrote};
 ghost use Rattle.refusals.specs.Tests.{◌then◌};
-ghost use Rattle.refusals.specs.Slices.{with_count, contents_after};
+ghost use Rattle.refusals.specs.Slices.{count_reply, with_count, contents_after};
 ghost use Rattle.netlist.specs.NetOf.{net_of};
 ghost use Rattle.netlist_tests.specs.Record.{record_verdict};
-ghost use Rattle.call_unpacked.specs.Calls.{test_depth, test_group, test_group_room, group_reply, group_sent, group_leaves, heading_reply, heading_sent};
+ghost use Rattle.call_unpacked.specs.Calls.{test_depth, test_group, test_group_room, group_sent, group_leaves, heading_reply, heading_sent};
 
 use model::Group;
 use netlist::{Netlist, UnpackedList};
-use refusals::{Refusal, Verdict};
+use refusals::{Refusal, Refused, Verdict, Written};
 
-// What a group call answers: how many numbers it wrote, or the refusal with its place.
+// A heading (RULES G23): the two counts of DIMACS' problem line. The line as text is the header (crate `dimacs`).
 #[derive(Clone, Copy)]
-pub enum GroupAnswer {
-    Written(usize),
-    Refused(Refusal, u32),
-}
-
-// What a heading call answers: the heading (RULES G23), the two counts of DIMACS' problem line (the line as text is the header, crate
-// `dimacs`); or the refusal with its place.
-#[derive(Clone, Copy)]
-pub enum HeadingAnswer {
-    Heading { variables: u32, clauses: u32 },
-    Refused(Refusal, u32),
+pub struct Heading {
+    pub variables: u32,
+    pub clauses: u32,
 }
 
 // What is sent back of a heading call: number and place (0 where it is not refused), and the heading.
@@ -53,14 +45,11 @@ pub fn test_depth(
 ) -> Verdict
     ensures { result ≡ (record_verdict (net_of net latches.now gates.now) latch_count gate_count then test_depth depth) }
 {
-    let record = netlist_tests::test_record(net, latches, latch_count, gates, gate_count);
-    if let Verdict::Refused(_, _) = record {
-        return record;
-    }
+    netlist_tests::test_record(net, latches, latch_count, gates, gate_count)?;
     if 255 < depth {
-        return Verdict::Refused(Refusal::Depth, 0);
+        return Err(Refused(Refusal::Depth, 0));
     }
-    Verdict::Passed
+    Ok(())
 }
 
 // The heading of a depth, RULES G23: "the variables that are numbered .. and the clauses that are really written".
@@ -71,24 +60,22 @@ pub fn heading(
     gates: &UnpackedList,
     gate_count: usize,
     depth: u32,
-) -> HeadingAnswer
+) -> Result<Heading, Refused>
     ensures { heading_reply result ≡ heading_sent (net_of net latches.now gates.now) latch_count gate_count depth }
 {
-    if let Verdict::Refused(refusal, place) = test_depth(
+    test_depth(
         net,
         latches,
         latch_count,
         gates,
         gate_count,
         depth,
-    ) {
-        return HeadingAnswer::Refused(refusal, place);
-    }
+    )?;
     let variables = clause_variables::frame_base(net, depth + 1);
-    HeadingAnswer::Heading {
+    Ok(Heading {
         variables,
         clauses: group_counts::clause_count(net, latches, gates, depth),
-    }
+    })
 }
 
 // The tests of a group call up to that of the group.
@@ -103,14 +90,11 @@ pub fn test_group(
 ) -> Verdict
     ensures { result ≡ (record_verdict (net_of net latches.now gates.now) latch_count gate_count then test_depth depth then test_group (net_of net latches.now gates.now) depth group) }
 {
-    let asked = test_depth(net, latches, latch_count, gates, gate_count, depth);
-    if let Verdict::Refused(_, _) = asked {
-        return asked;
-    }
+    test_depth(net, latches, latch_count, gates, gate_count, depth)?;
     if !group_order::is_in_depth(netlist::port_count(net), depth, group) {
-        return Verdict::Refused(Refusal::NoSuchGroup, 0);
+        return Err(Refused(Refusal::NoSuchGroup, 0));
     }
-    Verdict::Passed
+    Ok(())
 }
 
 // Copies numbers to the start of a slice that has room for them.
@@ -135,20 +119,20 @@ pub fn write_tested(
     depth: u32,
     group: Group,
     out: &mut [i32],
-) -> GroupAnswer
+) -> Written
     requires { Accepted (net_of net latches.now gates.now) × (depth ≤ 255) × (in_depth (ports (net_of net latches.now gates.now)) depth group ≡ true) }
-    ensures answer { group_reply result ≡ with_count (test_group_room (net_of net latches.now gates.now) depth group (length out.old)) (length (numbers_of (net_of net latches.now gates.now) depth group)) }
+    ensures answer { count_reply result ≡ with_count (test_group_room (net_of net latches.now gates.now) depth group (length out.old)) (length (numbers_of (net_of net latches.now gates.now) depth group)) }
     ensures borrowed { out.new ≡ contents_after (test_group_room (net_of net latches.now gates.now) depth group (length out.old)) (numbers_of (net_of net latches.now gates.now) depth group) out.old }
 {
     if 5992 <= out.len() {
-        return GroupAnswer::Written(groups::put_group(out, net, latches, gates, depth, group));
+        return Ok(groups::put_group(out, net, latches, gates, depth, group));
     }
     let mut numbers = [0; 5992];
     let count = groups::put_group(&mut numbers, net, latches, gates, depth, group);
     if out.len() < count {
-        return GroupAnswer::Refused(Refusal::NoRoom, 0);
+        return Err(Refused(Refusal::NoRoom, 0));
     }
-    GroupAnswer::Written(copy_numbers(out, &numbers[..count]))
+    Ok(copy_numbers(out, &numbers[..count]))
 }
 
 // Writes one group's clauses at the start of a slice, in the order of RULES G3 to G14, and answers how many numbers that is; or refuses and
@@ -162,11 +146,11 @@ pub fn write_group(
     depth: u32,
     group: Group,
     out: &mut [i32],
-) -> GroupAnswer
-    ensures answer { group_reply result ≡ group_sent (net_of net latches.now gates.now) latch_count gate_count depth group (length out.old) }
+) -> Written
+    ensures answer { count_reply result ≡ group_sent (net_of net latches.now gates.now) latch_count gate_count depth group (length out.old) }
     ensures borrowed { out.new ≡ group_leaves (net_of net latches.now gates.now) latch_count gate_count depth group out.old }
 {
-    if let Verdict::Refused(refusal, place) = test_group(
+    test_group(
         net,
         latches,
         latch_count,
@@ -174,8 +158,6 @@ pub fn write_group(
         gate_count,
         depth,
         group,
-    ) {
-        return GroupAnswer::Refused(refusal, place);
-    }
+    )?;
     write_tested(net, latches, gates, depth, group, out)
 }

@@ -1,10 +1,10 @@
 -- What is claimed of the calls over a record and its lent lists (RULES A1, A13 and A14): demand 3 of the calls over a netlist (call_unpacked/specs/Calls),
 -- for the netlist that record and lists stand for. Cited by `heading`, here and in `marrubigai`.
 use Rattle.std.specs.Prelude.{ℕ, ◌≤◌, ◌≡◌, ◌↔◌, List, length}
+use Rattle.refusals.specs.Verdict.{Passed}
 use Rattle.model.specs.Limits.{most_depth}
 use Rattle.model.specs.Netlist as model
 use Rattle.model.specs.Acceptance.{Accepted}
-use Rattle.refusals.specs.declared.Verdict.TheVariants.{Passed}
 use Rattle.netlist.specs.declared.Netlist.{Netlist}
 use Rattle.netlist_tests.specs.Record.{record_verdict}
 use Rattle.call_lists.specs.Lent.{net_lent}

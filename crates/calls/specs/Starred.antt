@@ -1,12 +1,12 @@
 -- The starred facts about the sheet of the full run (RULES F1 to F3, F7 to F10, F13 to F15, P8), as rows of one table: of the sheet's bytes, and of the netlist
 -- that they are read as. Nine rows, one claim, `Starred`. Cited by the contract of `heading`.
 use Rattle.std.specs.Prelude.{ℕ, ◌≡◌, List, [], ◌∷◌, ◌++◌, map, length}
+use Rattle.refusals.specs.Verdict.{Verdict}
 use Rattle.model.specs.Netlist.{Netlist}
 use Rattle.model.specs.Variables.{base}
 use Rattle.model.specs.Numbers.{numbers_of, formula, clauses_in}
 use Rattle.model.specs.declared.Group.TheVariants.{Pair}
 use Rattle.refusals.specs.Refusal.{reply_of}
-use Rattle.refusals.specs.declared.Verdict.{Verdict}
 use Rattle.decimal.specs.Digits.{line_feed, field, empty_field}
 use Rattle.sheet_lines.specs.Depth.{depth_verdict}
 use Rattle.sheet_parse.specs.Files.{net_in}

@@ -6,15 +6,17 @@ ghost use Rattle.std.specs.Prelude.{◌≡◌, length};
 ghost use Rattle.model.specs.Acceptance.{PathTheorem};
 ghost use Rattle.model.specs.Claim.{EncodingTheorem, StatedTheorem};
 ghost use Rattle.model.specs.Trace.{TraceTheorem};
+ghost use Rattle.refusals.specs.Slices.{count_reply};
 ghost use Rattle.calls.specs.Starred.{Starred};
-ghost use Rattle.call_unpacked.specs.Calls.{group_reply, heading_reply, group_sent, group_leaves, heading_sent, BoundTheorem};
+ghost use Rattle.call_unpacked.specs.Calls.{heading_reply, group_sent, group_leaves, heading_sent, BoundTheorem};
 ghost use Rattle.call_lists.specs.Lent.{net_lent};
 ghost use Rattle.calls.specs.LentCalls.{HeadingClaim, AcceptedTheorem};
 
 use call_lists::{GateEntry, LatchEntry};
-use call_unpacked::{GroupAnswer, HeadingAnswer};
+use call_unpacked::Heading;
 use model::Group;
 use netlist::Netlist;
+use refusals::{Refused, Written};
 
 // The heading of a depth, RULES G23: "the variables that are numbered .. and the clauses that are really written".
 pub fn heading(
@@ -22,7 +24,7 @@ pub fn heading(
     latches: &[LatchEntry],
     gates: &[GateEntry],
     depth: u32,
-) -> HeadingAnswer
+) -> Result<Heading, Refused>
     ensures answer { heading_reply result ≡ heading_sent (net_lent net latches.now gates.now) (length latches.now) (length gates.now) depth }
     ensures claim { HeadingClaim net latches.now gates.now depth }
     ensures paths { PathTheorem }
@@ -53,8 +55,8 @@ pub fn write_group(
     depth: u32,
     group: Group,
     out: &mut [i32],
-) -> GroupAnswer
-    ensures answer { group_reply result ≡ group_sent (net_lent net latches.now gates.now) (length latches.now) (length gates.now) depth group (length out.old) }
+) -> Written
+    ensures answer { count_reply result ≡ group_sent (net_lent net latches.now gates.now) (length latches.now) (length gates.now) depth group (length out.old) }
     ensures borrowed { out.new ≡ group_leaves (net_lent net latches.now gates.now) (length latches.now) (length gates.now) depth group out.old }
 {
     let mut latch_codes = [0; 1200];

@@ -9,14 +9,14 @@ use Rattle.refusals.specs.declared.Refusal.TheVariants.{NoRoom}
 use Rattle.refusals.proofs.Slices.{room-enough, room-short}
 use Rattle.model.specs.Wrote.{Wrote}
 use Rattle.decimal.specs.WroteAtEnd.{WroteAtEnd}
-use Rattle.dimacs.specs.PrintCalls.{print_reply, print_sent, print_leaves, fill_leaves}
+use Rattle.dimacs.specs.PrintCalls.{count_reply, print_sent, print_leaves, fill_leaves}
 use Rattle.dimacs.specs.declared.PrintAnswer.TheVariants.{Written, Refused}
 
 -- a text that was written in a slice that kept its length: the answer is its count, and it stands before what was there
 pub written :
     (text old new : List ℕ) (count : ℕ) → length new ≡ length old → Wrote text old new count →
-    record { answer : print_reply (Written count) ≡ print_sent text (length old); borrowed : new ≡ print_leaves text old }
-unfolding print_reply print_sent print_leaves with_count contents_after
+    record { answer : count_reply (Written count) ≡ print_sent text (length old); borrowed : new ≡ print_leaves text old }
+unfolding count_reply print_sent print_leaves with_count contents_after
 written text old new count kept w =
     let room : length text ≤ length old = omega (arith, ap length w.leaves, length-append text (drop (length text) old)) in
     let passes = room-enough (length text) (length old) room in
@@ -25,8 +25,8 @@ written text old new count kept w =
 -- a text that was filled from the right: the same answer, and it stands behind what was there
 pub filled :
     (text old new : List ℕ) (count : ℕ) → length text ≤ length old → WroteAtEnd text old new count →
-    record { answer : print_reply (Written count) ≡ print_sent text (length old); borrowed : new ≡ fill_leaves text old }
-unfolding print_reply print_sent fill_leaves with_count
+    record { answer : count_reply (Written count) ≡ print_sent text (length old); borrowed : new ≡ fill_leaves text old }
+unfolding count_reply print_sent fill_leaves with_count
 filled text old new count room f =
     let passes = room-enough (length text) (length old) room in
     record { answer = rw (passes, f.counted); borrowed = rw passes f.leaves }
@@ -34,16 +34,16 @@ filled text old new count room f =
 -- a text that has no room: refusal 9 at place 0, and nothing is changed
 pub not_written :
     (text old : List ℕ) → length old < length text →
-    record { answer : print_reply (Refused NoRoom 0) ≡ print_sent text (length old); borrowed : old ≡ print_leaves text old }
-unfolding print_reply print_sent print_leaves with_count contents_after
+    record { answer : count_reply (Refused NoRoom 0) ≡ print_sent text (length old); borrowed : old ≡ print_leaves text old }
+unfolding count_reply print_sent print_leaves with_count contents_after
 not_written text old short =
     let refuses = room-short (length text) (length old) short in
     record { answer = rw refuses; borrowed = rw refuses }
 
 pub not-filled :
     (text old : List ℕ) → length old < length text →
-    record { answer : print_reply (Refused NoRoom 0) ≡ print_sent text (length old); borrowed : old ≡ fill_leaves text old }
-unfolding print_reply print_sent fill_leaves with_count
+    record { answer : count_reply (Refused NoRoom 0) ≡ print_sent text (length old); borrowed : old ≡ fill_leaves text old }
+unfolding count_reply print_sent fill_leaves with_count
 not-filled text old short =
     let refuses = room-short (length text) (length old) short in
     record { answer = rw refuses; borrowed = rw refuses }

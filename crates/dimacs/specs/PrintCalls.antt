@@ -5,14 +5,6 @@ use Rattle.refusals.specs.Tests.{if_passed}
 use Rattle.refusals.specs.Slices.{test_room, with_count, contents_after}
 use Rattle.refusals.specs.declared.CountReply.{CountReply}
 use Rattle.decimal.specs.WroteAtEnd.{at_end}
-use Rattle.refusals.specs.declared.Verdict.TheVariants.{Passed, Refused}
-use Rattle.dimacs.specs.declared.PrintAnswer.{PrintAnswer}
-use Rattle.dimacs.specs.declared.PrintAnswer.TheVariants.{Written}
-
--- an answer in numbers (RULES N9)
-unfoldable pub print_reply : PrintAnswer → CountReply
-print_reply (Written n) = with_count Passed n
-print_reply (PrintAnswer.Refused r p) = with_count (Refused r p) 0
 
 -- what is sent back, for a slice of `room` bytes: how many were written
 unfoldable pub print_sent : List ℕ → ℕ → CountReply

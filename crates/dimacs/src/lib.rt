@@ -3,23 +3,17 @@
 
 ghost use Rattle.std.specs.Prelude.{◌≡◌, ◌+◌, ◌≤◌, leb, length};
 ghost use Rattle.model.specs.Wrote.{Wrote};
+ghost use Rattle.refusals.specs.Slices.{count_reply};
 ghost use Rattle.text_writer.specs.Table.{TableOrNone};
 ghost use Rattle.text_writer.specs.Extends.{Extends};
 ghost use Rattle.dimacs.specs.Text.{header_text, number_text, clause_text, OtherNumbers, NumberPrinted, refusal_text};
 ghost use Rattle.decimal.specs.Digits.{signed_digits};
 ghost use Rattle.decimal.specs.WroteAtEnd.{WroteAtEnd};
-ghost use Rattle.dimacs.specs.PrintCalls.{print_reply, print_sent, print_leaves, fill_leaves};
+ghost use Rattle.dimacs.specs.PrintCalls.{print_sent, print_leaves, fill_leaves};
 
 use decimal::{digit_count, fill_digits, put_field};
-use refusals::Refusal;
+use refusals::{Refusal, Refused, Written};
 use text_writer::{parts_of, write_byte, write_ended, write_signed_spaced, write_word};
-
-// What a call that prints answers: how many bytes it wrote, or a refusal and its place.
-#[derive(Clone, Copy)]
-pub enum PrintAnswer {
-    Written(usize),
-    Refused(Refusal, u32),
-}
 
 // Writes a clause number or an end mark, and the byte behind it, from place `at` on, and answers where it ends.
 fn write_number(out: &mut [u8], at: usize, z: i32, table: &[u8]) -> usize
@@ -96,38 +90,38 @@ pub fn write_refusal(out: &mut [u8], number: u32, place: u32) -> usize
 }
 
 // Prints DIMACS' problem line: the numbers of variables and of clauses.
-pub fn put_header(out: &mut [u8], variables: u32, clauses: u32) -> PrintAnswer
-    ensures answer { print_reply result ≡ print_sent (header_text variables clauses) (length out.old) }
+pub fn put_header(out: &mut [u8], variables: u32, clauses: u32) -> Written
+    ensures answer { count_reply result ≡ print_sent (header_text variables clauses) (length out.old) }
     ensures borrowed { out.new ≡ print_leaves (header_text variables clauses) out.old }
 {
     if out.len() < 8 + digit_count(variables) + digit_count(clauses) {
-        return PrintAnswer::Refused(Refusal::NoRoom, 0);
+        return Err(Refused(Refusal::NoRoom, 0));
     }
-    PrintAnswer::Written(write_header(out, variables, clauses))
+    Ok(write_header(out, variables, clauses))
 }
 
 // Prints numbers with end marks, a clause a line. Any 32-bit number is printed in decimal, also the least, which is no clause number,
 // and 0 ends a line wherever it stands. It fills no table: that takes longer than a group does without it.
-pub fn put_clauses(out: &mut [u8], numbers: &[i32]) -> PrintAnswer
-    ensures answer { print_reply result ≡ print_sent (clause_text numbers.now) (length out.old) }
+pub fn put_clauses(out: &mut [u8], numbers: &[i32]) -> Written
+    ensures answer { count_reply result ≡ print_sent (clause_text numbers.now) (length out.old) }
     ensures borrowed { out.new ≡ print_leaves (clause_text numbers.now) out.old }
     ensures others { OtherNumbers }
 {
     if clauses_fit(out.len(), numbers) {
-        return PrintAnswer::Written(write_numbers(out, numbers, b""));
+        return Ok(write_numbers(out, numbers, b""));
     }
-    PrintAnswer::Refused(Refusal::NoRoom, 0)
+    Err(Refused(Refusal::NoRoom, 0))
 }
 
 // Prints a refusal: its number and place in ten columns each.
-pub fn put_refusal(out: &mut [u8], number: u32, place: u32) -> PrintAnswer
-    ensures answer { print_reply result ≡ print_sent (refusal_text number place) (length out.old) }
+pub fn put_refusal(out: &mut [u8], number: u32, place: u32) -> Written
+    ensures answer { count_reply result ≡ print_sent (refusal_text number place) (length out.old) }
     ensures borrowed { out.new ≡ print_leaves (refusal_text number place) out.old }
 {
     if out.len() < 28 {
-        return PrintAnswer::Refused(Refusal::NoRoom, 0);
+        return Err(Refused(Refusal::NoRoom, 0));
     }
-    PrintAnswer::Written(write_refusal(out, number, place))
+    Ok(write_refusal(out, number, place))
 }
 
 // Whether a number is no longer than the room. Its digits are counted only where the room is shorter than the longest number.
@@ -156,13 +150,13 @@ fn fill_number(out: &mut [u8], z: i32) -> usize
 }
 
 // Prints any 32-bit number in decimal, from the right into the end of a buffer.
-pub fn put_number(out: &mut [u8], z: i32) -> PrintAnswer
-    ensures answer { print_reply result ≡ print_sent (signed_digits z) (length out.old) }
+pub fn put_number(out: &mut [u8], z: i32) -> Written
+    ensures answer { count_reply result ≡ print_sent (signed_digits z) (length out.old) }
     ensures borrowed { out.new ≡ fill_leaves (signed_digits z) out.old }
     ensures printed { NumberPrinted }
 {
     if number_fits(out.len(), z) {
-        return PrintAnswer::Written(fill_number(out, z));
+        return Ok(fill_number(out, z));
     }
-    PrintAnswer::Refused(Refusal::NoRoom, 0)
+    Err(Refused(Refusal::NoRoom, 0))
 }

@@ -7,6 +7,7 @@ use mathlib.Core.List.{List, [], ◌++◌}
 use native.Mathlib.Omega.{arith}
 use lib.IntN.{ℤ, pos, negsuc}
 use lib.ListN.{length, get_or, drop, drop_of_length-le, length-append}
+use Rattle.refusals.specs.Verdict.{Passed, refuse}
 use Rattle.model.specs.Netlist.{Netlist}
 use Rattle.model.specs.Gather.{gather}
 use Rattle.model.proofs.Gather.{length-gather}
@@ -14,7 +15,6 @@ use Rattle.refusals.specs.Refusal.{refusal_number}
 use Rattle.refusals.specs.Tests.{◌then◌}
 use Rattle.refusals.specs.Slices.{test_room, contents_after}
 use Rattle.refusals.specs.declared.Refusal.{Refusal}
-use Rattle.refusals.specs.declared.Verdict.TheVariants.{Passed, Refused}
 use Rattle.refusals.proofs.Tests.{then-passes}
 use Rattle.netlist.specs.declared.Netlist as R
 use Rattle.netlist.specs.NetOf.{net_of}
@@ -78,12 +78,12 @@ all-scratch old new e =
 
 -- the sheet is refused, or taken
 module _ (file : List ℕ) (zs : List ℤ) (requests : List ℕ) (lemmas : List ℤ) where
-  pub refused-sent : (r : Refusal) (p : ℕ) → sheet_in file ≡ Refused r p → (hints : List ℕ) (store marks : ℕ)
+  pub refused-sent : (r : Refusal) (p : ℕ) → sheet_in file ≡ refuse r p → (hints : List ℕ) (store marks : ℕ)
       → refused_with (refusal_number r) p ≡ forever_sent file zs requests lemmas hints store marks
   unfolding forever_sent forever_verdict ◌then◌ certificate_reply
   refused-sent r p e hints store marks = rw e
 
-  pub refused-kept : (r : Refusal) (p : ℕ) → sheet_in file ≡ Refused r p → (store : List ℤ) → store ≡ forever_store file zs requests lemmas store
+  pub refused-kept : (r : Refusal) (p : ℕ) → sheet_in file ≡ refuse r p → (store : List ℤ) → store ≡ forever_store file zs requests lemmas store
   unfolding forever_store forever_verdict ◌then◌ contents_after
   refused-kept r p e store = rw e
 

@@ -1,10 +1,10 @@
 -- What the call that checks a certificate for every depth answers and leaves (RULES H5 and H6): its tests, what is found of the invariant and the lemmas, and both as one
 -- reply. Cited by `certify_forever` and the exported call.
 use Rattle.std.specs.Prelude.{ℕ, ◌+◌, ◌*◌, ◌/◌, cond, List, ◌++◌, ℤ, length}
+use Rattle.refusals.specs.Verdict.{Verdict}
 use Rattle.model.specs.Netlist.{Netlist}
 use Rattle.refusals.specs.Tests.{◌then◌}
 use Rattle.refusals.specs.Slices.{test_room, contents_after}
-use Rattle.refusals.specs.declared.Verdict.{Verdict}
 use Rattle.sheet_parse.specs.Files.{net_in}
 use Rattle.program_input.specs.Input.{sheet_in}
 use Rattle.refutation_lemmas.specs.Refutation.{checked}

@@ -13,7 +13,7 @@ ghost use Rattle.invariant_check.specs.CertifiedForever.{CertifiedForever};
 ghost use Rattle.invariant_check.specs.ForeverCall.{store_need, step_found, forever_sent, forever_store, step_scratch, forever_scratch};
 
 use netlist::{Netlist, UnpackedList};
-use refusals::{Refusal, Verdict};
+use refusals::{Refusal, Refused};
 use refutation_depth::CertificateReply;
 use refutation_lemmas::Checked;
 
@@ -110,7 +110,7 @@ pub fn certify_forever(
     let mut gates = sheet_tests::no_codes();
     let sheet = sheet_tests::read_codes(file, 600, 600, &mut latches, &mut gates);
     let verdict = sheet.verdict;
-    if let Verdict::Refused(refusal, place) = verdict {
+    if let Err(Refused(refusal, place)) = verdict {
         return refutation_depth::refused(refusals::number(refusal), place);
     }
     certify_net(

@@ -5,9 +5,9 @@ use mathlib.Core.Path.{◌≡◌}
 use mathlib.Core.Bool.{false}
 use mathlib.Core.Logic.{◌↔◌}
 use borrow.Author.Tests.{ltb-false, le-ltb}
+use Rattle.refusals.specs.Verdict.{Passed}
 use Rattle.refusals.specs.Tests.{refuse_if}
 use Rattle.refusals.specs.declared.Refusal.TheVariants.{OutOfOrder, Size, CodeOutside, MemoryLoop, TiedAddress}
-use Rattle.refusals.specs.declared.Verdict.TheVariants.{Passed}
 use Rattle.refusals.proofs.Tests.{refuse_if-passes, then-passes, passed_then, first_passes, rest-passes}
 use Rattle.model.specs.Netlist.{Netlist, IsPort, port}
 use Rattle.model.specs.Acceptance.{NoTie, NoLoop, Accepted}

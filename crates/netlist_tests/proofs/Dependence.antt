@@ -11,8 +11,8 @@ use native.Mathlib.Omega.{arith}
 use lib.Dec.{eqb, leb, ltb}
 use lib.ListN.{set, replicate, length-replicate, get_or-replicate}
 use borrow.Author.Tests.{eq-eqb, ne_eqb, le-leb, lt-leb, lt-ltb, le-ltb}
+use Rattle.refusals.specs.Verdict.{Passed}
 use Rattle.refusals.specs.declared.Refusal.TheVariants.{MemoryLoop}
-use Rattle.refusals.specs.declared.Verdict.TheVariants.{Passed}
 use Rattle.refusals.proofs.Tests.{refuse_if-passes, in_order-passes}
 use Rattle.model.specs.Netlist.{Netlist, port, read_wire, gate_wire}
 use Rattle.model.specs.Circuit.{Values, sweep, is_read, depends_on_read}

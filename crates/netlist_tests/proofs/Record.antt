@@ -5,9 +5,9 @@ use mathlib.Core.Path.{◌≡◌, sym, ◌∙◌, ap}
 use mathlib.Core.Bool.{Bool, true, false}
 use mathlib.Core.Logic.{◌↔◌}
 use native.Mathlib.Numerals.{add-one}
+use Rattle.refusals.specs.Verdict.{Passed, refuse}
 use Rattle.refusals.specs.Tests.{in_order}
 use Rattle.refusals.specs.declared.Refusal.{Refusal}
-use Rattle.refusals.specs.declared.Verdict.TheVariants.{Passed, Refused}
 use Rattle.refusals.proofs.Tests.{refuse_if-passes, in_order-suc, in_order-kept, in_order-passes, in_order-same}
 use Rattle.model.specs.Netlist.{Netlist}
 use Rattle.netlist.specs.Places.{control_line, line_at}
@@ -30,11 +30,11 @@ module _ (c : Netlist) (r : Refusal) (fault : Netlist → Line → Bool) where
 
   -- the next line has the fault, and so is the first that has
   pub refused-next : (p : ℕ) → PassedTo p → fault c (line_at c (p + 1)) ≡ true → p + 1 ≤ control_line c
-      → test_lines c r fault ≡ Refused r (p + 1)
+      → test_lines c r fault ≡ refuse r (p + 1)
   unfolding test_lines
   refused-next p h e l = in_order-kept (test_line c r fault) (p + 1) (control_line c) l at_next
     where
-      at_next : in_order (test_line c r fault) (p + 1) ≡ Refused r (p + 1)
+      at_next : in_order (test_line c r fault) (p + 1) ≡ refuse r (p + 1)
       at_next = rw (add-one, in_order-suc (test_line c r fault) p h, ← add-one p, e)
 
   -- no line has the fault

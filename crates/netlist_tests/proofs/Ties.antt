@@ -7,9 +7,9 @@ use native.Mathlib.Decide.{dec_lt}
 use native.Mathlib.Omega.{arith}
 use lib.Dec.{ltb}
 use borrow.Author.Tests.{lt-ltb, le-ltb}
+use Rattle.refusals.specs.Verdict.{Passed, refuse}
 use Rattle.refusals.specs.Tests.{◌then◌}
 use Rattle.refusals.specs.declared.Refusal.TheVariants.{TiedAddress}
-use Rattle.refusals.specs.declared.Verdict.TheVariants.{Passed, Refused}
 use Rattle.refusals.proofs.Tests.{in_order-first}
 use Rattle.model.specs.Netlist.{Netlist, port}
 use Rattle.model.specs.Search.{IsFirst, first_where}
@@ -35,12 +35,12 @@ module _ {c : Netlist} {address : ℕ → ℕ} {line : ℕ} (stands : StandsAt c
 
   -- the first that is tied is the first line of all that is, where no line before theirs is
   tie-found : ((p : ℕ) → p < line → tie_fault c (line_at c p) ≡ false)
-      → {t : ℕ} → IsFirst (is_tied address) c.m t → t < c.m → test_lines c TiedAddress tie_fault ≡ Refused TiedAddress (line + t)
+      → {t : ℕ} → IsFirst (is_tied address) c.m t → t < c.m → test_lines c TiedAddress tie_fault ≡ refuse TiedAddress (line + t)
   unfolding test_lines
   tie-found before {t} first b =
       let place : suc (line - 1 + t) ≡ line + t = omega (arith, stands.behind) in
       in_order-first (λ p. tie_fault c (line_at c p)) TiedAddress (control_line c) at-line
-      ∙ rw (lt-ltb (line - 1 + t) (control_line c) (omega (arith, stands.behind, stands.within))) (ap (Refused TiedAddress) place)
+      ∙ rw (lt-ltb (line - 1 + t) (control_line c) (omega (arith, stands.behind, stands.within))) (ap (refuse TiedAddress) place)
     where
       none : (p : ℕ) → p < line + t → tie_fault c (line_at c p) ≡ false
       none p l =

@@ -1,9 +1,9 @@
 -- What is tested of one port by itself: its address codes for ties, these and its RE for memory loops. Cited by `test_address` and
 -- `any_dependent`; the tests of all lines are put together from them.
 use Rattle.std.specs.Prelude.{ℕ, ◌+◌, ◌/◌, Bool, ◌||◌, ltb}
+use Rattle.refusals.specs.Verdict.{Verdict}
 use Rattle.refusals.specs.Tests.{refuse_if}
 use Rattle.refusals.specs.declared.Refusal.TheVariants.{TiedAddress}
-use Rattle.refusals.specs.declared.Verdict.{Verdict}
 use Rattle.model.specs.Search.{any_below, first_where}
 use Rattle.netlist.specs.Faults.{is_tied}
 

@@ -2,10 +2,10 @@
 -- the law `passes-accepted` in proofs/Acceptance.antt. Cited by the tests of this crate, by the calls over a record by
 -- the reading of a sheet and by the import of a text.
 use Rattle.std.specs.Prelude.{ℕ, Bool, ◌||◌, ltb}
+use Rattle.refusals.specs.Verdict.{Verdict}
 use Rattle.refusals.specs.Tests.{refuse_if, ◌then◌, in_order}
 use Rattle.refusals.specs.declared.Refusal.{Refusal}
 use Rattle.refusals.specs.declared.Refusal.TheVariants.{OutOfOrder, Size, CodeOutside, MemoryLoop, TiedAddress}
-use Rattle.refusals.specs.declared.Verdict.{Verdict}
 use Rattle.model.specs.Netlist.{Netlist}
 use Rattle.netlist.specs.Places.{control_line, line_at}
 use Rattle.netlist.specs.Faults.{size_fault, code_fault, tie_fault, loop_fault}

@@ -15,19 +15,19 @@ ghost use Rattle.netlist_tests.specs.OnePort.{test_address, any_dependent};
 
 use literals::Code;
 use netlist::{Line, Netlist, UnpackedList};
-use refusals::{Refusal, Verdict};
+use refusals::{Refusal, Refused, Verdict};
 
 // Tests the numbers of lines N and M or T (refusal 4).
 pub fn test_sizes(net: Netlist) -> Verdict
     ensures { result ≡ test_lines (alone net) Refusal.Size size_fault }
 {
     if netlist::sizes_fault(net) {
-        return Verdict::Refused(Refusal::Size, 1);
+        return Err(Refused(Refusal::Size, 1));
     }
     if netlist::memory_fault(net) {
-        return Verdict::Refused(Refusal::Size, 2);
+        return Err(Refused(Refusal::Size, 2));
     }
-    Verdict::Passed
+    Ok(())
 }
 
 // Looks for the first line, in line order, with a code, gate operand or reset outside its limit.
@@ -41,10 +41,10 @@ fn first_code_fault(net: Netlist, latches: &UnpackedList, gates: &UnpackedList) 
         place += 1;
         let line = netlist::line_at(net, place);
         if netlist::code_fault(net, latches, gates, line) {
-            return Verdict::Refused(Refusal::CodeOutside, place);
+            return Err(Refused(Refusal::CodeOutside, place));
         }
     }
-    Verdict::Passed
+    Ok(())
 }
 
 // Tests every code, gate operand and reset (refusal 5). A place is looked for only where there is one.
@@ -55,7 +55,7 @@ fn test_codes(net: Netlist, latches: &UnpackedList, gates: &UnpackedList) -> Ver
     if netlist_scan::any_code_fault(net, latches, gates) {
         return first_code_fault(net, latches, gates);
     }
-    Verdict::Passed
+    Ok(())
 }
 
 // Whether the wire of address code t is that of an earlier one, inverted or not, and no constant's. Nearly all records pass: the loop
@@ -97,9 +97,9 @@ fn test_address(address: [Code; 12], m: u32, line: u32) -> Verdict
 {
     let t = first_tie(address, m);
     if t < m {
-        return Verdict::Refused(Refusal::TiedAddress, line + t);
+        return Err(Refused(Refusal::TiedAddress, line + t));
     }
-    Verdict::Passed
+    Ok(())
 }
 
 // Tests each port's address codes for ties, in line order (refusal 17).
@@ -109,15 +109,12 @@ fn test_ties(net: Netlist) -> Verdict
 {
     let line = 3 + net.latches + net.gates;
     let address = net.address;
-    let ties = test_address(address, net.m, line);
-    if let Verdict::Refused(_, _) = ties {
-        return ties;
-    }
+    test_address(address, net.m, line)?;
     if 0 < net.second_port {
         let second = net.address2;
         return test_address(second, net.m, line + net.m + net.n);
     }
-    Verdict::Passed
+    Ok(())
 }
 
 // Makes the table of the read bits.
@@ -225,7 +222,7 @@ fn test_loops(net: Netlist, gates: &UnpackedList) -> Verdict
 {
     let flags = depends_on_read(net, gates);
     if !any_loop(net, &flags) {
-        return Verdict::Passed;
+        return Ok(());
     }
     let last = netlist::control_line(net);
     let mut place = 2 + net.latches + net.gates;
@@ -233,10 +230,10 @@ fn test_loops(net: Netlist, gates: &UnpackedList) -> Verdict
         place += 1;
         let line = netlist::line_at(net, place);
         if loop_fault(net, &flags, line) {
-            return Verdict::Refused(Refusal::MemoryLoop, place);
+            return Err(Refused(Refusal::MemoryLoop, place));
         }
     }
-    Verdict::Passed
+    Ok(())
 }
 
 // Tests the memory's ports: ties, then memory loops.
@@ -244,10 +241,7 @@ pub fn test_ports(net: Netlist, gates: &UnpackedList) -> Verdict
     requires { WithinLimits (net_of net [] gates.now) }
     ensures { result ≡ test_ports (net_of net [] gates.now) }
 {
-    let ties = test_ties(net);
-    if let Verdict::Refused(_, _) = ties {
-        return ties;
-    }
+    test_ties(net)?;
     test_loops(net, gates)
 }
 
@@ -261,16 +255,10 @@ pub fn test_record(
 ) -> Verdict
     ensures { result ≡ record_verdict (net_of net latches.now gates.now) latch_count gate_count }
 {
-    let sizes = test_sizes(net);
-    if let Verdict::Refused(_, _) = sizes {
-        return sizes;
-    }
+    test_sizes(net)?;
     if (latch_count < net.latches as usize) | (gate_count < net.gates as usize) {
-        return Verdict::Refused(Refusal::OutOfOrder, 0);
+        return Err(Refused(Refusal::OutOfOrder, 0));
     }
-    let codes = test_codes(net, latches, gates);
-    if let Verdict::Refused(_, _) = codes {
-        return codes;
-    }
+    test_codes(net, latches, gates)?;
     test_ports(net, gates)
 }

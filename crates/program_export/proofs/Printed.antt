@@ -6,12 +6,12 @@ use mathlib.Core.List.{List}
 use mathlib.Core.Logic.{◌⊎◌, inl, inr}
 use native.Mathlib.Omega.{arith}
 use lib.Dec.{eqb, ltb}
+use Rattle.std.specs.Prelude.{Ok, Err}
+use Rattle.refusals.specs.Verdict.{Verdict, Passed, refuse}
 use Rattle.refusals.specs.Refusal.{refusal_number}
 use Rattle.refusals.specs.Tests.{refuse_if, ◌then◌}
 use Rattle.refusals.specs.declared.Refusal.{Refusal}
 use Rattle.refusals.specs.declared.Refusal.TheVariants.{OutOfOrder, Reset}
-use Rattle.refusals.specs.declared.Verdict.{Verdict}
-use Rattle.refusals.specs.declared.Verdict.TheVariants.{Passed, Refused}
 use Rattle.refusals.proofs.Tests.{passed_then}
 use Rattle.model.specs.Netlist.{Netlist}
 use Rattle.model.specs.Search.{first_where}
@@ -28,7 +28,7 @@ use Rattle.program_export.specs.Printed.{export_tests, export_output, OnlyExport
 
 module _ (file : List ℕ) where
   -- the sheet is refused
-  pub output-refused : {r : Refusal} {p : ℕ} → sheet_in file ≡ Refused r p → export_output file ≡ refusal_text (refusal_number r) p
+  pub output-refused : {r : Refusal} {p : ℕ} → sheet_in file ≡ refuse r p → export_output file ≡ refusal_text (refusal_number r) p
   unfolding export_output export_tests text_or_refusal ◌then◌
   output-refused e = rw e
 
@@ -42,8 +42,8 @@ abbrev Due : Refusal → Type 0
 Due r = (refusal_number r ≤ 6) ⊎ ((refusal_number r ≡ 17) ⊎ (refusal_number r ≡ 19))
 
 abbrev OnlyDue : Verdict → Type 0
-OnlyDue Passed = Unit {0}
-OnlyDue (Refused r p) = Due r
+OnlyDue (Ok _) = Unit {0}
+OnlyDue (Err e) = Due e.0
 
 due-if : (b : Bool) (r : Refusal) (p : ℕ) → Due r → OnlyDue (refuse_if b r p)
 due-if true r p h = h
@@ -51,13 +51,13 @@ due-if false r p h = tt
 
 due-then : (v w : Verdict) → OnlyDue v → OnlyDue w → OnlyDue (v then w)
 unfolding ◌then◌
-due-then Passed w a b = b
-due-then (Refused r p) w a b = a
+due-then (Ok _) w a b = b
+due-then (Err e) w a b = a
 
 due-of-only : (v : Verdict) → Only 6 v → OnlyDue v
-due-of-only Passed h = tt
-due-of-only (Refused r p) (inl h) = inl h
-due-of-only (Refused r p) (inr h) = inr (inl h)
+due-of-only (Ok _) h = tt
+due-of-only (Err e) (inl h) = inl h
+due-of-only (Err e) (inr h) = inr (inl h)
 
 -- behind the record's tests there are 3 and 19
 due-export : (c : Netlist) → record_verdict c 600 600 ≡ Passed → OnlyDue (test_export c 600 600)
@@ -73,6 +73,6 @@ unfolding export_tests ◌then◌
 only-due file r p e = subst OnlyDue e (by-sheet (sheet_in file) refl)
   where
     by-sheet : (v : Verdict) → sheet_in file ≡ v → OnlyDue (export_tests file)
-    by-sheet Passed h =
+    by-sheet (Ok _) h =
         rw h (due-export (net_in file) ((passes-accepted (net_in file) 600 600).1 (passed-sheet file 600 600 h)))
-    by-sheet (Refused q x) h = rw h (subst OnlyDue h (due-of-only (sheet_in file) (only-sheet file)))
+    by-sheet (Err e) h = rw h (subst OnlyDue h (due-of-only (sheet_in file) (only-sheet file)))

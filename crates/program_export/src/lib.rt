@@ -12,7 +12,7 @@ ghost use Rattle.program_input.specs.Input.{text_or_refusal};
 ghost use Rattle.program_export.specs.Printed.{export_output, OnlyExportRefusals};
 
 use netlist::{Netlist, UnpackedList};
-use refusals::{Refusal, Verdict};
+use refusals::{Refusal, Refused};
 
 // Writes the line of a refusal.
 fn write_refused(out: &mut [u8], refusal: Refusal, place: u32) -> usize
@@ -28,7 +28,7 @@ fn write_export(out: &mut [u8], net: Netlist, latches: &UnpackedList, gates: &Un
     ensures { Wrote (text_or_refusal (test_export (net_of net latches.now gates.now) 600 600) (export_text (net_of net latches.now gates.now))) out.old out.new result × (result ≤ 4096) }
 {
     let tested = aiger_export::test_export(net, latches, 600, gates, 600);
-    if let Verdict::Refused(refusal, place) = tested {
+    if let Err(Refused(refusal, place)) = tested {
         return write_refused(out, refusal, place);
     }
     aiger_writer::put_file(out, net, latches, gates)
@@ -46,7 +46,7 @@ pub fn write_output(out: &mut [u8], file: &[u8]) -> usize
     let mut gates = sheet_tests::no_codes();
     let sheet = sheet_tests::read_codes(file, 600, 600, &mut latches, &mut gates);
     let verdict = sheet.verdict;
-    if let Verdict::Refused(refusal, place) = verdict {
+    if let Err(Refused(refusal, place)) = verdict {
         return write_refused(out, refusal, place);
     }
     write_export(out, sheet.net, &latches, &gates)

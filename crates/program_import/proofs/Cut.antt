@@ -7,9 +7,9 @@ use lib.Dec.{eqb, ltb}
 use lib.ListN.{length, take}
 use lib.Seq.{take_all}
 use borrow.Author.Tests.{le-ltb, lt-ltb}
+use Rattle.refusals.specs.Verdict.{Passed, refuse}
 use Rattle.refusals.specs.Refusal.{refusal_number}
 use Rattle.refusals.specs.declared.Refusal.{Refusal}
-use Rattle.refusals.specs.declared.Verdict.TheVariants.{Passed, Refused}
 use Rattle.dimacs.specs.Text.{refusal_text}
 use Rattle.text_words.specs.Words.{lines_of}
 use Rattle.aiger_netlist.specs.TextNetlist.{aag_net}
@@ -30,7 +30,7 @@ module _ (more : Bool) (s : List ℕ) (m n word unknown second : ℕ) where
   unfolding import_text_cut stops_at_end import_text text_or_refusal
   printed-passed e = rw e (uncut more (sheet_text (aag_net s m n (imported_word word unknown) unknown second)))
 
-  pub printed-refused : (r : Refusal) (p : ℕ) → import_verdict s m n (imported_word word unknown) unknown second 600 600 ≡ Refused r p
+  pub printed-refused : (r : Refusal) (p : ℕ) → import_verdict s m n (imported_word word unknown) unknown second 600 600 ≡ refuse r p
       → import_text_cut more s m n word unknown second
       ≡ cond (more && (eqb (refusal_number r) 11 && ltb (length (lines_of s)) p)) [] (refusal_text (refusal_number r) p)
   unfolding import_text_cut stops_at_end import_text text_or_refusal

@@ -11,6 +11,8 @@ use native.Mathlib.Omega.{arith}
 use lib.Dec.{eqb, ltb}
 use lib.ListN.{length, get_or, get_or-append, get_or-eq_default}
 use borrow.Author.Tests.{lt-ltb, le-ltb, eqb-true, ltb-false, not-false}
+use Rattle.std.specs.Prelude.{Ok, Err}
+use Rattle.refusals.specs.Verdict.{Verdict, Passed, refuse}
 use Rattle.model.specs.Search.{any_below, first_from, first_where, seen}
 use Rattle.model.specs.Netlist.{Netlist}
 use Rattle.model.specs.Network.{renamed}
@@ -18,8 +20,6 @@ use Rattle.model.proofs.Booleans.{neither-true}
 use Rattle.refusals.specs.Tests.{refuse_if, ◌then◌, in_order}
 use Rattle.refusals.specs.declared.Refusal.{Refusal}
 use Rattle.refusals.specs.declared.Refusal.TheVariants.{NotAiger, Interface, Undefined}
-use Rattle.refusals.specs.declared.Verdict.{Verdict}
-use Rattle.refusals.specs.declared.Verdict.TheVariants.{Passed, Refused}
 use Rattle.refusals.proofs.Tests.{refused-not-passed, refuse_if-passes, first_passes, rest-passes, in_order-suc, in_order-kept, in_order-passes}
 use Rattle.decimal.specs.Digits.{line_feed}
 use Rattle.decimal.specs.TextValue.{same_text}
@@ -189,8 +189,8 @@ module _ (s t : List ℕ) (q : ℕ) (some-line : 1 ≤ q) (same : (p : ℕ) → 
     printed-same m n word unknown second = by-verdict (text_verdict s m n second) refl
       where
         by-verdict : (v : Verdict) → text_verdict s m n second ≡ v → import_text t m n word unknown second ≡ import_text s m n word unknown second
-        by-verdict Passed e = rw (text_same m n second, net-same m n (imported_word word unknown) unknown second (fits m n second e))
-        by-verdict (Refused r p) e = rw (text_same m n second, e)
+        by-verdict (Ok _) e = rw (text_same m n second, net-same m n (imported_word word unknown) unknown second (fits m n second e))
+        by-verdict (Err f) e = rw (text_same m n second, e)
 
 -- ---- a line that is missing is malformed
 no-numbers : (p : ℕ) → cond (eqb p 1) (numbers_behind aag (words_of [])) (word_numbers (words_of [])) ≡ []
@@ -224,17 +224,17 @@ lines-most e begun (x ∷ s) = by_byte (eqb x e) (lines-most e [] s) (lines-most
     by_byte false a b = omega arith
 
 -- tests in order that refuse do so at a place
-refused-at : (test : ℕ → Verdict) (n : ℕ) {r : Refusal} {p : ℕ} → in_order test n ≡ Refused r p
-    → (k : ℕ) × (1 ≤ k) × (k ≤ n) × (in_order test k ≡ Refused r p) × (test k ≡ Refused r p)
+refused-at : (test : ℕ → Verdict) (n : ℕ) {r : Refusal} {p : ℕ} → in_order test n ≡ refuse r p
+    → (k : ℕ) × (1 ≤ k) × (k ≤ n) × (in_order test k ≡ refuse r p) × (test k ≡ refuse r p)
 unfolding in_order
 refused-at test zero e = absurd (refused-not-passed (sym e))
 refused-at test (suc n) {r} {p} e = by-rest (in_order test n) refl (λ h. refused-at test n h)
   where
     by-rest : (v : Verdict) → in_order test n ≡ v
-        → (in_order test n ≡ Refused r p → (k : ℕ) × (1 ≤ k) × (k ≤ n) × (in_order test k ≡ Refused r p) × (test k ≡ Refused r p))
-        → (k : ℕ) × (1 ≤ k) × (k ≤ suc n) × (in_order test k ≡ Refused r p) × (test k ≡ Refused r p)
-    by-rest Passed h earlier = (suc n, omega arith, omega arith, e, sym (in_order-suc test n h) ∙ e)
-    by-rest (Refused r' p') h earlier =
+        → (in_order test n ≡ refuse r p → (k : ℕ) × (1 ≤ k) × (k ≤ n) × (in_order test k ≡ refuse r p) × (test k ≡ refuse r p))
+        → (k : ℕ) × (1 ≤ k) × (k ≤ suc n) × (in_order test k ≡ refuse r p) × (test k ≡ refuse r p)
+    by-rest (Ok _) h earlier = (suc n, omega arith, omega arith, e, sym (in_order-suc test n h) ∙ e)
+    by-rest (refuse r' p') h earlier =
         let found = earlier (h ∙ sym (in_order-kept test n (suc n) (omega arith) h) ∙ e) in
         (found.0, found.1, omega (arith, found.2), found.3, found.4)
 
@@ -256,7 +256,7 @@ module _ (s rest : List ℕ) (m n word unknown second : ℕ) where
       printed-same s (s ++ rest) (length (lines_of s)) some (same-to (length (lines_of s)) some (omega arith)) all m n word unknown second
 
   -- a whole line is refused
-  refused-same : (k x : ℕ) → 1 ≤ k → k ≤ length (lines_of s) → k ≤ lines_due (counts_in s) → in_order (tests s) k ≡ Refused NotAiger x
+  refused-same : (k x : ℕ) → 1 ≤ k → k ≤ length (lines_of s) → k ≤ lines_due (counts_in s) → in_order (tests s) k ≡ refuse NotAiger x
       → printed (s ++ rest) ≡ printed s
   unfolding import_text text_or_refusal import_verdict text_verdict ◌then◌
   refused-same k x some l due e =
@@ -265,8 +265,8 @@ module _ (s rest : List ℕ) (m n word unknown second : ℕ) where
       let longer = in_order-kept (tests (s ++ rest)) k (lines_due (counts_in (s ++ rest))) (rw (counts_same s (s ++ rest) k some same) due) there in
       rw (longer, in_order-kept (tests s) k (lines_due (counts_in s)) due e)
 
-  verdict-at : (k x : ℕ) → k ≤ lines_due (counts_in s) → in_order (tests s) k ≡ Refused NotAiger x
-      → import_verdict s m n (imported_word word unknown) unknown second 600 600 ≡ Refused NotAiger x
+  verdict-at : (k x : ℕ) → k ≤ lines_due (counts_in s) → in_order (tests s) k ≡ refuse NotAiger x
+      → import_verdict s m n (imported_word word unknown) unknown second 600 600 ≡ refuse NotAiger x
   unfolding import_verdict text_verdict ◌then◌
   verdict-at k x due e = rw (in_order-kept (tests s) k (lines_due (counts_in s)) due e)
 
@@ -274,7 +274,7 @@ module _ (s rest : List ℕ) (m n word unknown second : ℕ) where
     place-within : (k : ℕ) → place_of k ≤ length (lines_of s) → k ≤ length (lines_of s)
     place-within k l = omega (arith, lines-most line_feed [] s)
 
-    at-fault : {r : Refusal} {p : ℕ} (k : ℕ) → 1 ≤ k → k ≤ lines_due (counts_in s) → in_order (tests s) k ≡ Refused r p → tests s k ≡ Refused r p
+    at-fault : {r : Refusal} {p : ℕ} (k : ℕ) → 1 ≤ k → k ≤ lines_due (counts_in s) → in_order (tests s) k ≡ refuse r p → tests s k ≡ refuse r p
         → (b : Bool) → not_aiger s k ≡ b → printed (s ++ rest) ≡ printed s
     unfolding stops_at_end
     at-fault k some due order here true fault =
@@ -291,8 +291,8 @@ module _ (s rest : List ℕ) (m n word unknown second : ℕ) where
         true≢false (sym (missing-malformed s p (omega arith)) ∙ ((neither-true (malformed_at s p) (defines_again s p)).0 fine).0)
 
     by_first : (v : Verdict) → in_order (tests s) (lines_due (counts_in s)) ≡ v → printed (s ++ rest) ≡ printed s
-    by_first Passed e = by_cases (dec_lt (length (lines_of s)) (lines_due (counts_in s))) (λ l. absurd (missing l e)) (λ l. whole (omega arith))
-    by_first (Refused r p) e =
+    by_first (Ok _) e = by_cases (dec_lt (length (lines_of s)) (lines_due (counts_in s))) (λ l. absurd (missing l e)) (λ l. whole (omega arith))
+    by_first (Err f) e =
         let at = refused-at (tests s) (lines_due (counts_in s)) e in
         at-fault at.0 at.1 at.2 at.3 at.4 (not_aiger s at.0) refl
 

@@ -3,11 +3,11 @@ use Prim.Native.Nat.{ℕ, ◌≤◌}
 use mathlib.Core.Path.{◌≡◌, refl}
 use mathlib.Core.Bool.{false}
 use native.Mathlib.Omega.{arith}
+use Rattle.std.specs.Prelude.{Ok, Err}
+use Rattle.refusals.specs.Verdict.{Verdict, Passed}
 use Rattle.model.specs.Netlist.{Netlist}
 use Rattle.refusals.specs.Tests.{◌then◌}
 use Rattle.refusals.specs.declared.Refusal.TheVariants.{Size}
-use Rattle.refusals.specs.declared.Verdict.{Verdict}
-use Rattle.refusals.specs.declared.Verdict.TheVariants.{Passed, Refused}
 use Rattle.netlist.specs.Faults.{size_fault}
 use Rattle.netlist.proofs.Faults.{sizes-fit}
 use Rattle.netlist_tests.specs.Record.{test_lines, lists_short}
@@ -31,9 +31,9 @@ unfolding import_verdict ◌then◌
 room-suffices s m n word unknown second latch_room gate_room l g = by-sizes (test_lines (aag_net s m n word unknown second) Size size_fault) refl
   where
     by-sizes : (v : Verdict) → test_lines (aag_net s m n word unknown second) Size size_fault ≡ v → import_verdict s m n word unknown second 600 600 ≡ import_verdict s m n word unknown second latch_room gate_room
-    by-sizes Passed e =
+    by-sizes (Ok _) e =
         rw (long-enough (aag_net s m n word unknown second) 600 600 (omega arith) (omega arith) e, long-enough (aag_net s m n word unknown second) latch_room gate_room l g e)
-    by-sizes (Refused r p) e = rw e
+    by-sizes (Err f) e = rw e
 
 -- and a text that passes its own tests has no code outside
 pub no-code-outside : NoCodeOutside

@@ -1,11 +1,10 @@
 -- What `import_aag` prints for a text s with its caller's numbers (RULES P3, P20 and P23), that its room suffices, and that 5 does not occur. Cited
 -- by `write_output`.
-use Rattle.std.specs.Prelude.{ℕ, ◌≤◌, ◌≡◌, Bool, false, cond, ◌&&◌, List, [], ◌++◌, eqb, ltb, length, take}
+use Rattle.std.specs.Prelude.{ℕ, ◌≤◌, ◌≡◌, Bool, false, cond, ◌&&◌, List, [], ◌++◌, eqb, ltb, length, take, Ok, Err}
+use Rattle.refusals.specs.Verdict.{Verdict, Passed}
 use Rattle.model.specs.Limits.{most_wires}
 use Rattle.refusals.specs.Refusal.{refusal_number}
 use Rattle.refusals.specs.declared.Refusal.TheVariants.{CodeOutside}
-use Rattle.refusals.specs.declared.Verdict.{Verdict}
-use Rattle.refusals.specs.declared.Verdict.TheVariants.{Passed, Refused}
 use Rattle.text_words.specs.Words.{lines_of}
 use Rattle.netlist.specs.Faults.{code_fault}
 use Rattle.netlist_tests.specs.Record.{test_lines}
@@ -22,8 +21,8 @@ import_text s m n word unknown second =
 
 -- whether an import stops at a line that the text does not have whole: 11 at a place behind its last line
 unfoldable pub stops_at_end : List ℕ → Verdict → Bool
-stops_at_end s Passed = false
-stops_at_end s (Refused r p) = eqb (refusal_number r) 11 && ltb (length (lines_of s)) p
+stops_at_end s (Ok _) = false
+stops_at_end s (Err e) = eqb (refusal_number e.0) 11 && ltb (length (lines_of s)) e.1
 
 -- what is printed of the text s, which is cut from a longer one where there is `more`: nothing, where what stands behind s could change it
 unfoldable pub import_text_cut : Bool → List ℕ → ℕ → ℕ → ℕ → ℕ → ℕ → List ℕ

@@ -7,7 +7,7 @@ ghost use Rattle.dimacs.specs.Text.{refusal_text};
 ghost use Rattle.text_words.specs.Words.{lines_of};
 ghost use Rattle.program_import.specs.Printed.{import_text_cut, import_output, PrefixSuffices, ImportRoomSuffices, NoCodeOutside};
 
-use refusals::Verdict;
+use refusals::Refused;
 
 // One line more, where a byte is a line feed.
 fn line_end(x: u8) -> usize
@@ -89,7 +89,7 @@ fn write_import(
         &mut gates,
     );
     let verdict = sheet.verdict;
-    if let Verdict::Refused(refusal, place) = verdict {
+    if let Err(Refused(refusal, place)) = verdict {
         return write_refused(out, text, more, refusals::number(refusal), place);
     }
     sheet_writer::put_sheet(out, sheet.net, &latches, &gates)

@@ -8,14 +8,14 @@ use mathlib.Core.Logic.{◌⊎◌, inl, inr}
 use lib.Dec.{ltb}
 use lib.ListN.{drop}
 use native.Mathlib.Omega.{arith}
+use Rattle.std.specs.Prelude.{Ok, Err}
+use Rattle.refusals.specs.Verdict.{Verdict, Passed}
 use Rattle.model.specs.Limits.{most_depth}
 use Rattle.model.specs.Netlist.{Netlist}
 use Rattle.refusals.specs.Refusal.{refusal_number}
 use Rattle.refusals.specs.Tests.{refuse_if, ◌then◌, in_order}
 use Rattle.refusals.specs.declared.Refusal.{Refusal}
 use Rattle.refusals.specs.declared.Refusal.TheVariants.{Ragged, Misprint, OutOfOrder, Size, CodeOutside, MemoryLoop, Depth, NoRoom, TiedAddress}
-use Rattle.refusals.specs.declared.Verdict.{Verdict}
-use Rattle.refusals.specs.declared.Verdict.TheVariants.{Passed, Refused}
 use Rattle.netlist.specs.Faults.{size_fault, code_fault, tie_fault, loop_fault}
 use Rattle.netlist.specs.Places.{line_at, control_line}
 use Rattle.netlist.specs.declared.Line.{Line}
@@ -39,8 +39,8 @@ abbrev Due : ℕ → Refusal → Type 0
 Due most r = (refusal_number r ≤ most) ⊎ (refusal_number r ≡ 17)
 
 abbrev pub Only : ℕ → Verdict → Type 0
-Only most Passed = Unit {0}
-Only most (Refused r p) = Due most r
+Only most (Ok _) = Unit {0}
+Only most (Err e) = Due most e.0
 
 only_if : (most : ℕ) (b : Bool) (r : Refusal) (p : ℕ) → Due most r → Only most (refuse_if b r p)
 only_if most true r p h = h
@@ -48,8 +48,8 @@ only_if most false r p h = tt
 
 only_then : (most : ℕ) (v w : Verdict) → Only most v → (v ≡ Passed → Only most w) → Only most (v then w)
 unfolding ◌then◌
-only_then most Passed w a b = b refl
-only_then most (Refused r p) w a b = a
+only_then most (Ok _) w a b = b refl
+only_then most (Err e) w a b = a
 
 only-in-order : (most : ℕ) (test : ℕ → Verdict) → ((p : ℕ) → Only most (test p)) → (n : ℕ) → Only most (in_order test n)
 unfolding in_order
@@ -119,13 +119,13 @@ module _ (file : List ℕ) where
 
 -- and no other of an input
 only-more : (v : Verdict) → Only 6 v → Only 7 v
-only-more Passed h = tt
-only-more (Refused r p) (inl h) = inl (omega arith)
-only-more (Refused r p) (inr h) = inr h
+only-more (Ok _) h = tt
+only-more (Err e) (inl h) = inl (omega arith)
+only-more (Err e) (inr h) = inr h
 
 pub only-refusals : OnlyInputRefusals
 only-refusals s r p e = by-depth (depth_verdict s) refl
   where
     by-depth : (v : Verdict) → depth_verdict s ≡ v → Due 7 r
-    by-depth Passed h = subst (Only 7) (sym (sheet-decides s h) ∙ e) (only-more (sheet_in (drop 11 s)) (only-sheet (drop 11 s)))
-    by-depth (Refused q x) h = subst (Only 7) (sym (depth-decides s h) ∙ e) (subst (Only 7) h (only-depth s))
+    by-depth (Ok _) h = subst (Only 7) (sym (sheet-decides s h) ∙ e) (only-more (sheet_in (drop 11 s)) (only-sheet (drop 11 s)))
+    by-depth (Err e) h = subst (Only 7) (sym (depth-decides s h) ∙ e) (subst (Only 7) h (only-depth s))

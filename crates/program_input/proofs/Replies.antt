@@ -5,13 +5,13 @@ use mathlib.Core.List.{List}
 use native.Mathlib.Omega.{arith}
 use lib.ListN.{length, take, drop, length-drop}
 use lib.Seq.{take_all}
+use Rattle.std.specs.Prelude.{Ok, Err}
+use Rattle.refusals.specs.Verdict.{Verdict, Passed, refuse}
 use Rattle.model.specs.Netlist.{Netlist}
 use Rattle.model.proofs.Claim.{encodes}
 use Rattle.refusals.specs.Refusal.{reply_of}
 use Rattle.refusals.specs.Tests.{◌then◌}
 use Rattle.refusals.specs.declared.Refusal.{Refusal}
-use Rattle.refusals.specs.declared.Verdict.{Verdict}
-use Rattle.refusals.specs.declared.Verdict.TheVariants.{Passed, Refused}
 use Rattle.refusals.proofs.Table.{reply-passed}
 use Rattle.refusals.proofs.Tests.{passed_then, then-passes}
 use Rattle.netlist.specs.NetOf.{net_of}
@@ -28,7 +28,7 @@ use Rattle.program_input.specs.declared.Input.{Input}
 use Rattle.program_input.specs.Input.{sheet_in, input_verdict, input_answer, InputTaken, InputEncoded, text_or_refusal, text_for}
 
 -- the depth is refused
-pub depth-decides : (s : List ℕ) {r : Refusal} {p : ℕ} → depth_verdict s ≡ Refused r p → input_verdict s ≡ Refused r p
+pub depth-decides : (s : List ℕ) {r : Refusal} {p : ℕ} → depth_verdict s ≡ refuse r p → input_verdict s ≡ refuse r p
 unfolding input_verdict ◌then◌
 depth-decides s e = rw e
 
@@ -80,8 +80,8 @@ taken-text text t = rw (t.passed, t.net-is, t.depth_is)
 -- and for one that is refused
 refusal-of : (v : Verdict) (text : List ℕ) → ((reply_of v).number ≡ 0 → ⊥) → text_or_refusal v text ≡ refusal_text (reply_of v).number (reply_of v).place
 unfolding text_or_refusal
-refusal-of Passed text h = absurd (h refl)
-refusal-of (Refused r p) text h = refl
+refusal-of (Ok _) text h = absurd (h refl)
+refusal-of (Err e) text h = refl
 
 pub refused-text : (text : Netlist → ℕ → List ℕ) (s : List ℕ) (r : Input) → r ≡ input_answer s → (r.number ≡ 0 → ⊥)
     → text_for text s ≡ refusal_text r.number r.place

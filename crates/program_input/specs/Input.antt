@@ -1,6 +1,7 @@
 -- What the program makes of its input (RULES P1, "a depth line of eleven bytes, .. then the sheet", P4, "The depth is tested
 -- first", and P6), and what is printed for it (RULES P3). Cited by the functions of `program_input`, and by what prints.
-use Rattle.std.specs.Prelude.{ℕ, ◌≤◌, ◌≡◌, List, ◌⊎◌, drop}
+use Rattle.std.specs.Prelude.{ℕ, ◌≤◌, ◌≡◌, List, ◌⊎◌, drop, Ok, Err}
+use Rattle.refusals.specs.Verdict.{Verdict, Passed, refuse}
 use Rattle.model.specs.Limits.{most_wires, most_depth}
 use Rattle.model.specs.Acceptance.{Accepted}
 use Rattle.model.specs.Netlist as M
@@ -8,8 +9,6 @@ use Rattle.model.specs.Claim.{Encodes}
 use Rattle.refusals.specs.Refusal.{refusal_number, reply_of}
 use Rattle.refusals.specs.Tests.{◌then◌, if_passed}
 use Rattle.refusals.specs.declared.Refusal.{Refusal}
-use Rattle.refusals.specs.declared.Verdict.{Verdict}
-use Rattle.refusals.specs.declared.Verdict.TheVariants.{Passed, Refused}
 use Rattle.netlist.specs.NetOf.{net_of}
 use Rattle.netlist.specs.declared.Netlist.{Netlist}
 use Rattle.dimacs.specs.Text.{refusal_text}
@@ -56,12 +55,12 @@ pub record InputEncoded (s : List ℕ) (r : Input) (latches gates : List ℕ) : 
 
 -- what a program prints for an input: its text of the sheet's netlist and the depth, or the refusal (RULES P3)
 unfoldable pub text_or_refusal : Verdict → List ℕ → List ℕ
-text_or_refusal Passed text = text
-text_or_refusal (Refused r p) text = refusal_text (refusal_number r) p
+text_or_refusal (Ok _) text = text
+text_or_refusal (Err e) text = refusal_text (refusal_number e.0) e.1
 
 unfoldable pub text_for : (M.Netlist → ℕ → List ℕ) → List ℕ → List ℕ
 text_for text s = text_or_refusal (input_verdict s) (text (net_in (drop 11 s)) (depth_line s).depth)
 
 -- RULES P6: "Only 1 to 7 and 17 occur in `frames`"
 abbrev pub OnlyInputRefusals : Type 0
-OnlyInputRefusals = (s : List ℕ) (r : Refusal) (p : ℕ) → input_verdict s ≡ Refused r p → (refusal_number r ≤ 7) ⊎ (refusal_number r ≡ 17)
+OnlyInputRefusals = (s : List ℕ) (r : Refusal) (p : ℕ) → input_verdict s ≡ refuse r p → (refusal_number r ≤ 7) ⊎ (refusal_number r ≡ 17)

@@ -26,8 +26,8 @@ fn depth_beside(verdict: Verdict, depth: u32) -> u32
     ensures { result ≡ if_passed verdict depth 0 }
 {
     match verdict {
-        Verdict::Passed => depth,
-        Verdict::Refused(_, _) => 0,
+        Ok(()) => depth,
+        Err(_) => 0,
     }
 }
 
@@ -72,7 +72,7 @@ pub fn read_input(input: &[u8], latches: &mut UnpackedList, gates: &mut Unpacked
 {
     let line = sheet_lines::read_depth(input);
     let verdict = line.verdict;
-    if let Verdict::Refused(_, _) = verdict {
+    if let Err(_) = verdict {
         return answer(verdict, 0, netlist::empty_net());
     }
     read_sheet(&input[11..], line.depth, latches, gates)

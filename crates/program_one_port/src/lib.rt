@@ -6,7 +6,6 @@ ghost use Rattle.model.specs.Wrote.{Wrote};
 ghost use Rattle.sheet_one_port.specs.OnePortCall.{OnePortTheorem};
 ghost use Rattle.program_one_port.specs.Printed.{one_port_output, OnlyOnePortRefusals};
 
-use dimacs::PrintAnswer;
 
 // Converts a sheet, and writes the sheet with one port or the refusal into a slice that has room for the longest.
 pub fn write_output(out: &mut [u8], file: &[u8]) -> usize
@@ -18,8 +17,8 @@ pub fn write_output(out: &mut [u8], file: &[u8]) -> usize
 {
     let answer = sheet_one_port::convert(file, out);
     match answer {
-        PrintAnswer::Written(count) => count,
-        PrintAnswer::Refused(refusal, place) => {
+        Ok(count) => count,
+        Err(Refused(refusal, place)) => {
             dimacs::write_refusal(out, refusals::number(refusal), place)
         }
     }

@@ -1,9 +1,9 @@
 -- What a program that lends the largest memory and trace knows (RULES P15, "Only 1 to 7, 14, 15 and 17 occur in `replay`"). Promised by `write_replay`.
 use Rattle.std.specs.Prelude.{ℕ, ◌+◌, ◌*◌, ◌^◌, ◌≤◌, ◌≡◌}
+use Rattle.refusals.specs.Verdict.{Passed}
 use Rattle.model.specs.Limits.{most_wires, most_address_bits, most_depth}
 use Rattle.model.specs.Netlist.{Netlist}
 use Rattle.model.specs.Acceptance.{Accepted}
-use Rattle.refusals.specs.declared.Verdict.TheVariants.{Passed}
 use Rattle.replay_call.specs.ReplayCall.{replay_tests}
 
 -- a word for each address

@@ -34,6 +34,9 @@ pub struct Refused(pub Refusal, pub u32);
 // What a chain of tests answers: none refuses, or the first that does.
 pub type Verdict = Result<(), Refused>;
 
+// What a call that writes into a slice answers: how many numbers or bytes were written, or the refusal.
+pub type Written = Result<usize, Refused>;
+
 // A verdict in numbers (RULES N9), both 0 where no test refuses.
 #[derive(Clone, Copy)]
 pub struct Reply {

@@ -7,6 +7,8 @@ use native.Mathlib.Omega.{arith}
 use lib.IntN.{ℤ}
 use lib.ListN.{length, take, drop, length-append, length-drop}
 use lib.Seq.{length-take-le, take_at, drop_at, take-append_seam, drop-append_seam}
+use Rattle.std.specs.Prelude.{Ok, Err}
+use Rattle.refusals.specs.Verdict.{Verdict, Passed, refuse}
 use Rattle.model.specs.Netlist.{Netlist}
 use Rattle.model.specs.Variables.{base}
 use Rattle.model.specs.Numbers.{formula}
@@ -17,8 +19,6 @@ use Rattle.refusals.specs.Refusal.{reply_of}
 use Rattle.refusals.specs.Tests.{◌then◌}
 use Rattle.refusals.specs.Slices.{test_room, contents_after}
 use Rattle.refusals.specs.declared.Refusal.TheVariants.{NoRoom}
-use Rattle.refusals.specs.declared.Verdict.{Verdict}
-use Rattle.refusals.specs.declared.Verdict.TheVariants.{Passed, Refused}
 use Rattle.refusals.proofs.Slices.{room-enough, room-short, room-shown}
 use Rattle.refusals.proofs.Tests.{then-passes}
 use Rattle.netlist.specs.declared.Netlist as R
@@ -51,12 +51,12 @@ marks-half c k = omega arith
 
 module _ (c : Netlist) (k lemmas store marks : ℕ) where
   -- the store is too short
-  pub store-short : store < length (formula c k) + lemmas → room_verdict c k lemmas store marks ≡ Refused NoRoom 0
+  pub store-short : store < length (formula c k) + lemmas → room_verdict c k lemmas store marks ≡ refuse NoRoom 0
   unfolding room_verdict ◌then◌
   store-short h = rw (room-short (length (formula c k) + lemmas) store h)
 
   -- the marks are
-  pub marks-short : length (formula c k) + lemmas ≤ store → marks < marks_need c k → room_verdict c k lemmas store marks ≡ Refused NoRoom 0
+  pub marks-short : length (formula c k) + lemmas ≤ store → marks < marks_need c k → room_verdict c k lemmas store marks ≡ refuse NoRoom 0
   unfolding room_verdict ◌then◌
   marks-short l h = rw (room-enough (length (formula c k) + lemmas) store l, room-short (marks_need c k) marks h)
 
@@ -103,13 +103,13 @@ module _ (w : Verdict) where
   refused-reply : (v : Verdict) (found : Checked) → ((reply_of v).number ≡ 0 → ⊥)
       → certificate_reply (v then w) found ≡ refused_with (reply_of v).number (reply_of v).place
   unfolding certificate_reply ◌then◌
-  refused-reply Passed found h = absurd (h refl)
-  refused-reply (Refused r p) found h = refl
+  refused-reply (Ok _) found h = absurd (h refl)
+  refused-reply (Err e) found h = refl
 
   refused-store : (v : Verdict) (xs old : List ℤ) → ((reply_of v).number ≡ 0 → ⊥) → contents_after (v then w) xs old ≡ old
   unfolding contents_after ◌then◌
-  refused-store Passed xs old h = absurd (h refl)
-  refused-store (Refused r p) xs old h = refl
+  refused-store (Ok _) xs old h = absurd (h refl)
+  refused-store (Err e) xs old h = refl
 
 module _ (s : List ℕ) (r : Input) (e : r ≡ input_answer s) (h : r.number ≡ 0 → ⊥) where
   number_is : r.number ≡ (reply_of (input_verdict s)).number
@@ -151,9 +151,9 @@ module _ (s : List ℕ) (e : input_verdict s ≡ Passed) where
 -- what is certified was found, and nothing refused
 pub certified-reply : (v : Verdict) (found : Checked) → (certificate_reply v found).certified ≡ 1 → (v ≡ Passed) × (found ≡ Refuted)
 unfolding certificate_reply
-certified-reply Passed Refuted e = (refl, refl)
-certified-reply Passed (Unjustified i) e = absurd (omega (arith, e))
-certified-reply (Refused r p) found e = absurd (omega (arith, e))
+certified-reply (Ok _) Refuted e = (refl, refl)
+certified-reply (Ok _) (Unjustified i) e = absurd (omega (arith, e))
+certified-reply (Err f) found e = absurd (omega (arith, e))
 
 -- an input that is certified: its sheet is accepted, and as its formula has no model, no run breaks the property
 pub certified-input : (s : List ℕ) (lemmas : List ℤ) (hints : List ℕ) (store marks : ℕ) → (certificate_sent s lemmas hints store marks).certified ≡ 1 → CertifiedInput s

@@ -1,14 +1,13 @@
 -- What the call that checks a certificate answers and leaves (RULES U6 to U8): its tests, what is found of the lemmas, and both as one reply. Cited by
 -- `certify` and the exported call.
-use Rattle.std.specs.Prelude.{ℕ, ◌+◌, ◌*◌, ◌≡◌, List, ◌++◌, ℤ, length, drop}
+use Rattle.std.specs.Prelude.{ℕ, ◌+◌, ◌*◌, ◌≡◌, List, ◌++◌, ℤ, length, drop, Ok, Err}
+use Rattle.refusals.specs.Verdict.{Verdict}
 use Rattle.model.specs.Netlist.{Netlist}
 use Rattle.model.specs.Variables.{base}
 use Rattle.model.specs.Numbers.{formula}
 use Rattle.refusals.specs.Refusal.{refusal_number}
 use Rattle.refusals.specs.Tests.{◌then◌}
 use Rattle.refusals.specs.Slices.{test_room, contents_after}
-use Rattle.refusals.specs.declared.Verdict.{Verdict}
-use Rattle.refusals.specs.declared.Verdict.TheVariants.{Passed, Refused}
 use Rattle.sheet_lines.specs.Depth.{depth_line}
 use Rattle.sheet_parse.specs.Files.{net_in}
 use Rattle.program_input.specs.Input.{input_verdict}
@@ -38,9 +37,9 @@ abbrev pub refused_with : ℕ → ℕ → CertificateReply
 refused_with number place = record { number = number; place = place; certified = 0; lemma = 0 }
 
 unfoldable pub certificate_reply : Verdict → Checked → CertificateReply
-certificate_reply (Refused r p) found = refused_with (refusal_number r) p
-certificate_reply Passed Refuted = record { number = 0; place = 0; certified = 1; lemma = 0 }
-certificate_reply Passed (Unjustified i) = record { number = 0; place = 0; certified = 0; lemma = i }
+certificate_reply (Err e) found = refused_with (refusal_number e.0) e.1
+certificate_reply (Ok _) Refuted = record { number = 0; place = 0; certified = 1; lemma = 0 }
+certificate_reply (Ok _) (Unjustified i) = record { number = 0; place = 0; certified = 0; lemma = i }
 
 unfoldable pub certificate_sent : List ℕ → List ℤ → List ℕ → ℕ → ℕ → CertificateReply
 certificate_sent s lemmas hints store marks =
@@ -53,8 +52,8 @@ store_after s lemmas store marks =
 
 -- how many of the marks are scratch: at a refusal none, else those that are needed (RULES U8)
 unfoldable pub scratch_after : Verdict → ℕ → ℕ
-scratch_after Passed need = need
-scratch_after (Refused r p) need = 0
+scratch_after (Ok _) need = need
+scratch_after (Err e) need = 0
 
 unfoldable pub marks_scratch : List ℕ → ℕ → ℕ → ℕ → ℕ
 marks_scratch s lemmas store marks = scratch_after (certify_verdict s lemmas store marks) (marks_need (net_in (drop 11 s)) (depth_line s).depth)

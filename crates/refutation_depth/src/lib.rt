@@ -6,13 +6,14 @@ ghost use Rattle.std.specs.Prelude.{◌≡◌, ◌++◌, ◌+◌, ◌≤◌, len
 ghost use Rattle.model.specs.Acceptance.{SizesFit, Accepted};
 ghost use Rattle.model.specs.Numbers.{formula};
 ghost use Rattle.model.specs.Wrote.{over};
+ghost use Rattle.refusals.specs.Verdict.{Passed};
 ghost use Rattle.refusals.specs.Slices.{contents_after};
 ghost use Rattle.netlist.specs.NetOf.{net_of, alone};
 ghost use Rattle.refutation_depth.specs.Certified.{CertifiedInput};
 ghost use Rattle.refutation_depth.specs.Certificate.{marks_need, room_verdict, found_of, refused_with, certificate_reply, certificate_sent, store_after, scratch_after, marks_scratch, KeptBehind};
 
 use netlist::{Netlist, UnpackedList};
-use refusals::{Refusal, Verdict};
+use refusals::{Refusal, Refused, Verdict};
 use refutation_lemmas::Checked;
 
 // What a check of a certificate answers: number and place (0 where it is not refused); 1 where the depth is certified; where it is not, the first lemma
@@ -49,15 +50,15 @@ fn test_room(
 {
     let front = refutation_formula::formula_length(net, latches, gates, depth);
     if store < front {
-        return Verdict::Refused(Refusal::NoRoom, 0);
+        return Err(Refused(Refusal::NoRoom, 0));
     }
     if store - front < lemmas {
-        return Verdict::Refused(Refusal::NoRoom, 0);
+        return Err(Refused(Refusal::NoRoom, 0));
     }
     if marks < marks_need(net, depth) {
-        return Verdict::Refused(Refusal::NoRoom, 0);
+        return Err(Refused(Refusal::NoRoom, 0));
     }
-    Verdict::Passed
+    Ok(())
 }
 
 // Puts the formula at the start of the store and the lemmas behind it, and answers where these begin.
@@ -117,7 +118,7 @@ pub fn refused(number: u32, place: u32) -> CertificateReply
 
 // What is sent back of a check.
 pub fn reply_of(found: Checked) -> CertificateReply
-    ensures { result ≡ certificate_reply Verdict.Passed found }
+    ensures { result ≡ certificate_reply Passed found }
 {
     match found {
         Checked::Refuted => CertificateReply {
@@ -154,7 +155,7 @@ fn certify_net(
     ensures marks { KeptBehind (scratch_after (room_verdict (net_of net latches.now gates.now) depth (length lemmas.now) (length store.old) (length marks.old))
         (marks_need (net_of net latches.now gates.now) depth)) marks.old marks.new }
 {
-    if let Verdict::Refused(refusal, place) = test_room(
+    if let Err(Refused(refusal, place)) = test_room(
         net,
         latches,
         gates,

@@ -5,9 +5,9 @@ use mathlib.Core.Path.{◌≡◌, refl}
 use mathlib.Core.List.{List}
 use lib.IntN.{ℤ}
 use lib.ListN.{length}
+use Rattle.std.specs.Prelude.{Ok, Err}
+use Rattle.refusals.specs.Verdict.{Verdict}
 use Rattle.model.specs.Netlist.{Netlist}
-use Rattle.refusals.specs.declared.Verdict.{Verdict}
-use Rattle.refusals.specs.declared.Verdict.TheVariants.{Passed, Refused}
 use Rattle.answer_lines.specs.Answer.{Answer, malformed, unsatisfiable, satisfiable, answer_in, answer_kind}
 use Rattle.answer_lines.specs.declared.AnswerKind.{AnswerKind}
 use Rattle.answer_lines.specs.declared.AnswerKind.TheVariants.{Satisfiable}
@@ -24,8 +24,8 @@ use Rattle.replay_answer.specs.ReplayAnswer.{said_of, replay_for, memory_for, tr
 trace-same : (v : Verdict) (a : ReplayAnswer) (lines lines' old : List ℕ) → trace_after a lines old ≡ trace_after a lines' old
     → trace_after (unless_refused v a) lines old ≡ trace_after (unless_refused v a) lines' old
 unfolding unless_refused trace_after
-trace-same Passed a lines lines' old h = h
-trace-same (Refused r p) a lines lines' old h = refl
+trace-same (Ok _) a lines lines' old h = h
+trace-same (Err e) a lines lines' old h = refl
 
 module _ (c : Netlist) (latch_count gate_count k : ℕ) where
   -- where the answer is satisfiable, what is said is replayed as what its numbers say

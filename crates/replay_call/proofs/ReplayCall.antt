@@ -8,14 +8,13 @@ use native.Mathlib.Omega.{arith}
 use lib.ListN.{length, take, drop}
 use lib.Seq.{take-append_seam}
 use borrow.Author.Tests.{le-ltb, lt-ltb}
+use Rattle.refusals.specs.Verdict.{Verdict, Passed, refuse}
 use Rattle.model.specs.Wrote.{over, Wrote}
 use Rattle.model.specs.Netlist.{Netlist}
 use Rattle.refusals.specs.Tests.{◌then◌}
 use Rattle.refusals.specs.Slices.{test_room}
 use Rattle.refusals.specs.declared.Refusal.{Refusal}
 use Rattle.refusals.specs.declared.Refusal.TheVariants.{NoRoom, NoAnswer, NoViolation}
-use Rattle.refusals.specs.declared.Verdict.{Verdict}
-use Rattle.refusals.specs.declared.Verdict.TheVariants.{Passed, Refused}
 use Rattle.refusals.proofs.Tests.{then-passes}
 use Rattle.refusals.proofs.Slices.{room-enough, room-short, room-shown}
 use Rattle.netlist_tests.specs.Record.{record_verdict}
@@ -48,18 +47,18 @@ module _ (c : Netlist) (latch_count gate_count k words room : ℕ) where
   asked-passed h d = sym ((then-passes (record_verdict c latch_count gate_count) (test_depth k)).1 (h, rw (le-ltb 255 k d)))
 
   -- 4, 3, 5, 6 and 7
-  pub tests-refused : {r : Refusal} {p : ℕ} → Refused r p ≡ (record_verdict c latch_count gate_count then test_depth k)
-      → replay_tests c latch_count gate_count k words room ≡ Refused r p
+  pub tests-refused : {r : Refusal} {p : ℕ} → refuse r p ≡ (record_verdict c latch_count gate_count then test_depth k)
+      → replay_tests c latch_count gate_count k words room ≡ refuse r p
   unfolding ◌then◌
   tests-refused = tests-asked
 
   module _ (asked : Passed ≡ (record_verdict c latch_count gate_count then test_depth k)) where
     -- 9, of the memory and of the trace
-    pub tests-memory : words < 2 ^ c.m → replay_tests c latch_count gate_count k words room ≡ Refused NoRoom 0
+    pub tests-memory : words < 2 ^ c.m → replay_tests c latch_count gate_count k words room ≡ refuse NoRoom 0
     unfolding ◌then◌
     tests-memory l = rw (tests-asked asked, room-short (2 ^ c.m) words l)
 
-    pub tests-trace : 2 ^ c.m ≤ words → room < trace_length c k → replay_tests c latch_count gate_count k words room ≡ Refused NoRoom 0
+    pub tests-trace : 2 ^ c.m ≤ words → room < trace_length c k → replay_tests c latch_count gate_count k words room ≡ refuse NoRoom 0
     unfolding ◌then◌
     tests-trace h l = rw (tests-asked asked, room-enough (2 ^ c.m) words h, room-short (trace_length c k) room l)
 

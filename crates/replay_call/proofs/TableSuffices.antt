@@ -7,6 +7,8 @@ use native.Mathlib.Omega.{arith}
 use lib.Dec.{eqb}
 use lib.ListN.{length}
 use lib.IntN.{ℤ}
+use Rattle.std.specs.Prelude.{Ok, Err}
+use Rattle.refusals.specs.Verdict.{Verdict, Passed}
 use Rattle.model.specs.Search.{first_where, IsFirst}
 use Rattle.model.specs.Netlist.{Netlist, ports, IsPort, port, input_wire, read_wire, last_wire}
 use Rattle.model.specs.Circuit.{code_value}
@@ -20,8 +22,6 @@ use Rattle.model.proofs.Gather.{gather-same}
 use Rattle.model.proofs.Variables.{base-suc, base-monotone, base-most}
 use Rattle.model.proofs.Circuit.{code_same}
 use Rattle.refusals.specs.Tests.{if_passed}
-use Rattle.refusals.specs.declared.Verdict.{Verdict}
-use Rattle.refusals.specs.declared.Verdict.TheVariants.{Passed, Refused}
 use Rattle.refusals.proofs.Tests.{first_passes, rest-passes}
 use Rattle.netlist_tests.specs.Record.{record_verdict}
 use Rattle.netlist_tests.proofs.Acceptance.{passes-accepted}
@@ -154,16 +154,16 @@ module _ (c : Netlist) (latch_count gate_count k : ℕ) (kind : AnswerKind) {y z
   answer-alike words room = by (replay_tests c latch_count gate_count k words room) refl
     where
       by : (v : Verdict) → replay_tests c latch_count gate_count k words room ≡ v → unless_refused v (outcome c k kind y) ≡ unless_refused v (outcome c k kind z)
-      by Passed e = let ok = accepted-at c latch_count gate_count k words room e in outcome-alike ok.0 k (say ok) kind
-      by (Refused r p) e = refl
+      by (Ok _) e = let ok = accepted-at c latch_count gate_count k words room e in outcome-alike ok.0 k (say ok) kind
+      by (Err f) e = refl
 
   memory-alike : (old : List ℕ) (room : ℕ) → replay_memory c latch_count gate_count k kind y old room ≡ replay_memory c latch_count gate_count k kind z old room
   unfolding replay_memory
   memory-alike old room = by (replay_tests c latch_count gate_count k (length old) room) refl
     where
       by : (v : Verdict) → replay_tests c latch_count gate_count k (length old) room ≡ v → if_passed v (words_left c k kind y old) old ≡ if_passed v (words_left c k kind z old) old
-      by Passed e = let ok = accepted-at c latch_count gate_count k (length old) room e in left-alike ok.0 k (say ok) kind old
-      by (Refused r p) e = refl
+      by (Ok _) e = let ok = accepted-at c latch_count gate_count k (length old) room e in left-alike ok.0 k (say ok) kind old
+      by (Err f) e = refl
 
   trace-alike : (words : ℕ) (old : List ℕ) → replay_trace c latch_count gate_count k kind y words old ≡ replay_trace c latch_count gate_count k kind z words old
   unfolding replay_trace replay_answer unless_refused trace_after
@@ -171,10 +171,10 @@ module _ (c : Netlist) (latch_count gate_count k : ℕ) (kind : AnswerKind) {y z
     where
       by : (v : Verdict) → replay_tests c latch_count gate_count k words (length old) ≡ v
           → trace_after (unless_refused v (outcome c k kind y)) (trace_text c y k) old ≡ trace_after (unless_refused v (outcome c k kind z)) (trace_text c z k) old
-      by Passed e =
+      by (Ok _) e =
           let ok = accepted-at c latch_count gate_count k words (length old) e in
           ap₂ (λ a xs. trace_after a xs old) (outcome-alike ok.0 k (say ok) kind) (lines-alike ok.0 k (say ok))
-      by (Refused r p) e = refl
+      by (Err f) e = refl
 
 pub table-suffices : TableSuffices
 unfolding replay_sent

@@ -15,15 +15,16 @@ ghost use Rattle.replay_call.specs.RightAnswer.{RightAnswerTheorem};
 use answer_lines::AnswerKind;
 use answer_signs::SignTable;
 use netlist::{Netlist, UnpackedList};
-use refusals::{Refusal, Verdict};
+use refusals::{Refusal, Refused, Verdict};
 
-// What a replay answers: the first frame that breaks the property; that the answer claims there is none; or the refusal with its place.
+// What a replay finds: the first frame that breaks the property, or that the answer claims there is none.
 #[derive(Clone, Copy)]
-pub enum ReplayAnswer {
+pub enum Replayed {
     Broken(u32),
     ClaimedUnsatisfiable,
-    Refused(Refusal, u32),
 }
+
+pub type ReplayAnswer = Result<Replayed, Refused>;
 
 // The same in numbers: number and place of a refusal, both 0 where nothing is refused; 1 where the answer claims that there is none; and
 // the first frame that breaks the property.
@@ -41,19 +42,19 @@ pub fn reply_of(answer: ReplayAnswer) -> ReplayReply
     ensures { result ≡ replay_reply answer }
 {
     match answer {
-        ReplayAnswer::Broken(first) => ReplayReply {
+        Ok(Replayed::Broken(first)) => ReplayReply {
             number: 0,
             place: 0,
             claimed: 0,
             first,
         },
-        ReplayAnswer::ClaimedUnsatisfiable => ReplayReply {
+        Ok(Replayed::ClaimedUnsatisfiable) => ReplayReply {
             number: 0,
             place: 0,
             claimed: 1,
             first: 0,
         },
-        ReplayAnswer::Refused(refusal, place) => ReplayReply {
+        Err(Refused(refusal, place)) => ReplayReply {
             number: refusals::number(refusal),
             place,
             claimed: 0,
@@ -83,17 +84,14 @@ fn test_replay(
 ) -> Verdict
     ensures { result ≡ replay_tests (net_of net latches.now gates.now) latch_count gate_count depth words room }
 {
-    let asked = call_unpacked::test_depth(net, latches, latch_count, gates, gate_count, depth);
-    if let Verdict::Refused(_, _) = asked {
-        return asked;
-    }
+    call_unpacked::test_depth(net, latches, latch_count, gates, gate_count, depth)?;
     if words < replay_run::word_count(net) {
-        return Verdict::Refused(Refusal::NoRoom, 0);
+        return Err(Refused(Refusal::NoRoom, 0));
     }
     if room < trace_length(net, depth) {
-        return Verdict::Refused(Refusal::NoRoom, 0);
+        return Err(Refused(Refusal::NoRoom, 0));
     }
-    Verdict::Passed
+    Ok(())
 }
 
 // The lines of a run, to be filled: so many that every trace fits.
@@ -121,15 +119,15 @@ fn replay_values(
     let shown = replay_run::run(memory, &mut lines, net, latches, gates, signs, depth);
     if shown.fault {
         replay_run::fill_words(memory, replay_run::word_count(net), 0);
-        return ReplayAnswer::Refused(Refusal::NoAnswer, 0);
+        return Err(Refused(Refusal::NoAnswer, 0));
     }
     let first = shown.first;
     if depth < first {
-        return ReplayAnswer::Refused(Refusal::NoViolation, 0);
+        return Err(Refused(Refusal::NoViolation, 0));
     }
     let length = trace_length(net, depth);
     let _ = text_writer::write_word(trace, &lines[..length]);
-    ReplayAnswer::Broken(first)
+    Ok(Replayed::Broken(first))
 }
 
 // Replays an answer of a kind, whose numbers have the signs lent.
@@ -155,7 +153,7 @@ pub fn replay(
 {
     let words = memory.len();
     let room = trace.len();
-    if let Verdict::Refused(refusal, place) = test_replay(
+    test_replay(
         net,
         latches,
         latch_count,
@@ -164,16 +162,14 @@ pub fn replay(
         depth,
         words,
         room,
-    ) {
-        return ReplayAnswer::Refused(refusal, place);
-    }
+    )?;
     match kind {
         AnswerKind::Malformed => {
             replay_run::fill_words(memory, replay_run::word_count(net), 0);
-            return ReplayAnswer::Refused(Refusal::NoAnswer, 0);
+            return Err(Refused(Refusal::NoAnswer, 0));
         }
         AnswerKind::Unsatisfiable => {
-            return ReplayAnswer::ClaimedUnsatisfiable;
+            return Ok(Replayed::ClaimedUnsatisfiable);
         }
         AnswerKind::Satisfiable => {
             return replay_values(net, latches, gates, depth, signs, memory, trace);

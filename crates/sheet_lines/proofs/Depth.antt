@@ -6,10 +6,10 @@ use mathlib.Core.List.{List}
 use borrow.Author.Tests.{le-leb, lt-leb, ltb-false, leb-true, leb-false, eq-eqb, ne_eqb}
 use lib.Dec.{leb, ltb}
 use lib.ListN.{length, get_or, take}
+use Rattle.std.specs.Prelude.{Ok, Err}
+use Rattle.refusals.specs.Verdict.{Verdict, Passed}
 use Rattle.refusals.specs.Tests.{◌then◌}
 use Rattle.refusals.specs.declared.Refusal.TheVariants.{Depth}
-use Rattle.refusals.specs.declared.Verdict.{Verdict}
-use Rattle.refusals.specs.declared.Verdict.TheVariants.{Passed, Refused}
 use Rattle.refusals.proofs.Tests.{refused-not-passed, refuse_if-passes, rest-passes}
 use Rattle.decimal.specs.Digits.{line_feed}
 use Rattle.sheet_fields.specs.Fields.{field_of}
@@ -35,8 +35,8 @@ depth_field-no-feed s l n = rw (le-leb 11 (length s) l, ne_eqb (get_or s 10 0) l
 -- the depth beside a verdict does not change it
 with_depth-verdict : (v : Verdict) (f : Field) → (with_depth v f).verdict ≡ v
 unfolding with_depth
-with_depth-verdict Passed f = refl
-with_depth-verdict (Refused r p) f = refl
+with_depth-verdict (Ok _) f = refl
+with_depth-verdict (Err e) f = refl
 
 pub depth_line-verdict : (s : List ℕ) → (depth_line s).verdict ≡ depth_verdict s
 unfolding depth_line

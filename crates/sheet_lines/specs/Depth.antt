@@ -1,10 +1,10 @@
 -- The depth line, the first eleven bytes of the input (RULES P1 and P4). Cited by `read_depth`
 -- and its parts, program_input/specs/Input and calls/specs/Starred.
 use Rattle.std.specs.Prelude.{ℕ, not, cond, ◌&&◌, List, eqb, leb, ltb, length, get_or, take}
+use Rattle.refusals.specs.Verdict.{Verdict}
 use Rattle.model.specs.Limits.{most_depth}
 use Rattle.refusals.specs.Tests.{refuse_if, ◌then◌, if_passed}
 use Rattle.refusals.specs.declared.Refusal.TheVariants.{Misprint, Depth}
-use Rattle.refusals.specs.declared.Verdict.{Verdict}
 use Rattle.decimal.specs.Digits.{line_feed}
 use Rattle.sheet_fields.specs.Fields.{field_of}
 use Rattle.sheet_fields.specs.declared.Field.{Field}

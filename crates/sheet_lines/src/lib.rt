@@ -7,7 +7,7 @@ ghost use Rattle.sheet_lines.specs.Letters.{letter_of, kind_of, row_of, second_p
 ghost use Rattle.sheet_lines.specs.Lines.{as_wanted, value_of, left_empty, line_with, line_of, LinesAsWritten};
 ghost use Rattle.sheet_lines.specs.Depth.{depth_field, field_verdict, depth_verdict, with_depth, depth_line};
 
-use refusals::{Refusal, Verdict};
+use refusals::{Refusal, Refused, Verdict};
 use sheet_fields::Field;
 
 // Which line it is: the letters of RULES S5 in their order, and any other.
@@ -249,14 +249,14 @@ fn test_depth(field: Field) -> Verdict
     ensures { result ≡ field_verdict field }
 {
     match field {
-        Field::Empty => Verdict::Refused(Refusal::Misprint, 0),
+        Field::Empty => Err(Refused(Refusal::Misprint, 0)),
         Field::Filled(depth) => {
             if depth <= 255 {
-                return Verdict::Passed;
+                return Ok(());
             }
-            Verdict::Refused(Refusal::Depth, 0)
+            Err(Refused(Refusal::Depth, 0))
         }
-        Field::Misprinted => Verdict::Refused(Refusal::Misprint, 0),
+        Field::Misprinted => Err(Refused(Refusal::Misprint, 0)),
     }
 }
 
@@ -265,8 +265,8 @@ fn with_depth(verdict: Verdict, field: Field) -> DepthLine
     ensures { result ≡ with_depth verdict field }
 {
     let depth = match verdict {
-        Verdict::Passed => value_of(field),
-        Verdict::Refused(_, _) => 0,
+        Ok(()) => value_of(field),
+        Err(_) => 0,
     };
     DepthLine { verdict, depth }
 }

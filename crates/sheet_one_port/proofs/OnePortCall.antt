@@ -7,6 +7,8 @@ use native.Mathlib.Nat.{le_refl}
 use native.Mathlib.Decide.{ℕ_discrete}
 use native.Mathlib.Omega.{arith}
 use lib.ListN.{length}
+use Rattle.std.specs.Prelude.{Ok, Err}
+use Rattle.refusals.specs.Verdict.{Verdict, Passed, refuse}
 use Rattle.model.specs.Netlist.{Netlist}
 use Rattle.model.specs.Acceptance.{Accepted}
 use Rattle.model.specs.Agree.{Agree}
@@ -16,8 +18,6 @@ use Rattle.model.specs.OnePort.{one_port, SameRuns}
 use Rattle.model.proofs.OnePort.{one-accepted, same_runs, same-runs-single, same-runs-agree}
 use Rattle.refusals.specs.Tests.{◌then◌}
 use Rattle.refusals.specs.declared.Refusal.{Refusal}
-use Rattle.refusals.specs.declared.Verdict.{Verdict}
-use Rattle.refusals.specs.declared.Verdict.TheVariants.{Passed, Refused}
 use Rattle.refusals.proofs.Tests.{refused-not-passed, first_passes, rest-passes}
 use Rattle.netlist_tests.proofs.Acceptance.{lists-long}
 use Rattle.call_unpacked.proofs.Calls.{lines-most}
@@ -57,14 +57,14 @@ pub room-for-all : (file : List ℕ) → sheet_verdict file 600 600 ≡ file_ver
 room-for-all file = by-verdict (file_verdict file) refl
   where
     by-verdict : (v : Verdict) → file_verdict file ≡ v → sheet_verdict file 600 600 ≡ v
-    by-verdict Passed e =
+    by-verdict (Ok _) e =
         let sizes = (accepted-in file e).limits.sizes in
         sheet-passed file 600 600 e ((lists-long (net_in file) 600 600).1 (sizes.latches-fit, sizes.gates-fit))
-    by-verdict (Refused r p) e = sheet-refused file 600 600 e
+    by-verdict (Err f) e = sheet-refused file 600 600 e
 
 module _ (file : List ℕ) where
   -- the tests in their order
-  pub tests-refused : {r : Refusal} {p : ℕ} → file_verdict file ≡ Refused r p → one_port_tests file ≡ Refused r p
+  pub tests-refused : {r : Refusal} {p : ℕ} → file_verdict file ≡ refuse r p → one_port_tests file ≡ refuse r p
   unfolding one_port_tests ◌then◌
   tests-refused e = rw e
 
@@ -73,7 +73,7 @@ module _ (file : List ℕ) where
   tests-second e = rw e
 
   -- what is read where something is refused
-  pub read-refused : {sheet : SheetAnswer} {latches gates : List ℕ} {r : Refusal} {p : ℕ} → sheet.verdict ≡ Refused r p → one_port_tests file ≡ Refused r p
+  pub read-refused : {sheet : SheetAnswer} {latches gates : List ℕ} {r : Refusal} {p : ℕ} → sheet.verdict ≡ refuse r p → one_port_tests file ≡ refuse r p
       → ReadAsOne file sheet latches gates
   read-refused told e = record { verdict-is = told ∙ sym e; agrees = λ passed. absurd (refused-not-passed (sym e ∙ passed)) }
 

@@ -8,12 +8,12 @@ use native.Mathlib.Decide.{dec_lt}
 use native.Mathlib.Omega.{arith}
 use lib.Dec.{leb, ltb}
 use borrow.Author.Tests.{lt-ltb, le-ltb, le-leb, lt-leb}
+use Rattle.refusals.specs.Verdict.{Passed}
 use Rattle.model.specs.Netlist.{Netlist, read_bits, read_wire, gate_wire}
 use Rattle.model.specs.OnePort.{names_second}
 use Rattle.model.proofs.OnePort.{Unused}
 use Rattle.model.proofs.Booleans.{neither-true}
 use Rattle.refusals.specs.declared.Refusal.TheVariants.{SecondPort}
-use Rattle.refusals.specs.declared.Verdict.TheVariants.{Passed}
 use Rattle.netlist_tests.proofs.Record.{test_lines-passes}
 use Rattle.sheet_one_port.specs.SecondPort.{second_use, test_second}
 

@@ -1,13 +1,12 @@
 -- What the conversion of a sheet answers and leaves (RULES O1 to O4), and what the sheet written is to the one that was handed in (RULES O5).
 -- Cited by `convert` and `marrubigai_one_port`, and by what `one_port` prints.
 use Rattle.std.specs.Prelude.{ℕ, ◌≡◌, List, length}
+use Rattle.refusals.specs.Verdict.{Verdict, Passed}
 use Rattle.model.specs.Agree.{Agree}
 use Rattle.model.specs.OnePort.{one_port, SameRuns}
 use Rattle.refusals.specs.Tests.{◌then◌}
 use Rattle.refusals.specs.Slices.{test_room, with_count, contents_after}
 use Rattle.refusals.specs.declared.CountReply.{CountReply}
-use Rattle.refusals.specs.declared.Verdict.{Verdict}
-use Rattle.refusals.specs.declared.Verdict.TheVariants.{Passed}
 use Rattle.sheet_parse.specs.Files.{net_in}
 use Rattle.sheet_tests.specs.Sheet.{file_verdict}
 use Rattle.sheet_text.specs.SheetText.{sheet_text}

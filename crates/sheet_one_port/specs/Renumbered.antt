@@ -1,8 +1,8 @@
 -- A record and lists renumbered in place. Cited by `renumber`, `one_record` and `read_one_port`, and by no public contract.
 use Rattle.std.specs.Prelude.{ℕ, ◌<◌, ◌≡◌, List, get_or}
+use Rattle.refusals.specs.Verdict.{Passed}
 use Rattle.model.specs.Agree.{Agree}
 use Rattle.model.specs.OnePort.{one_code, one_port}
-use Rattle.refusals.specs.declared.Verdict.TheVariants.{Passed}
 use Rattle.netlist.specs.NetOf.{net_of, alone}
 use Rattle.netlist.specs.declared.Netlist.{Netlist}
 use Rattle.sheet_steps.specs.declared.SheetAnswer.{SheetAnswer}

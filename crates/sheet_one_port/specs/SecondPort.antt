@@ -1,9 +1,9 @@
 -- Which lines use the second port of a netlist (RULES T18). Cited by `second_use`, `test_second` and sheet_one_port/specs/OnePortCall.
 use Rattle.std.specs.Prelude.{Bool, false, not, ◌||◌, eqb}
+use Rattle.refusals.specs.Verdict.{Verdict}
 use Rattle.model.specs.Netlist.{Netlist}
 use Rattle.model.specs.OnePort.{names_second}
 use Rattle.refusals.specs.declared.Refusal.TheVariants.{SecondPort}
-use Rattle.refusals.specs.declared.Verdict.{Verdict}
 use Rattle.netlist.specs.declared.Line.{Line}
 use Rattle.netlist.specs.declared.Line.TheVariants.{Sizes, Memory, Latch, Gate, Address, WriteData, SecondAddress, SecondEnable, Control}
 use Rattle.netlist_tests.specs.Record.{test_lines}

@@ -5,18 +5,17 @@
 ghost use Rattle.std.specs.Prelude.{◌≡◌, ℕ, ◌<◌, eqb, length};
 ghost use Rattle.model.specs.Acceptance.{SizesFit};
 ghost use Rattle.model.specs.OnePort.{names_second, one_code};
+ghost use Rattle.refusals.specs.Slices.{count_reply};
 ghost use Rattle.netlist.specs.NetOf.{code_of, net_of, alone};
 ghost use Rattle.netlist.specs.Places.{HasLine};
-ghost use Rattle.dimacs.specs.PrintCalls.{print_reply};
 ghost use Rattle.sheet_parse.specs.Progress.{no_codes};
 ghost use Rattle.sheet_one_port.specs.SecondPort.{second_use, test_second};
 ghost use Rattle.sheet_one_port.specs.OnePortCall.{one_port_sent, one_port_leaves, OnePortTheorem};
 ghost use Rattle.sheet_one_port.specs.Renumbered.{RenumberedList, RenumberedRecord, ReadAsOne};
 
-use dimacs::PrintAnswer;
 use literals::Code;
 use netlist::{Line, Netlist, UnpackedList};
-use refusals::{Refusal, Verdict};
+use refusals::{Refusal, Refused, Verdict, Written};
 use sheet_steps::SheetAnswer;
 
 // Whether a code is the constant false.
@@ -81,10 +80,10 @@ fn test_second(net: Netlist, latches: &UnpackedList, gates: &UnpackedList) -> Ve
         place += 1;
         let line = netlist::line_at(net, place);
         if second_use(net, latches, gates, line) {
-            return Verdict::Refused(Refusal::SecondPort, place);
+            return Err(Refused(Refusal::SecondPort, place));
         }
     }
-    Verdict::Passed
+    Ok(())
 }
 
 // A code under the numbers of one port: the wires behind the second port's read bits move up.
@@ -167,25 +166,25 @@ fn read_one_port(file: &[u8], latches: &mut UnpackedList, gates: &mut UnpackedLi
 {
     let sheet = sheet_tests::read_codes(file, 600, 600, latches, gates);
     let read = sheet.verdict;
-    if let Verdict::Refused(_, _) = read {
+    if let Err(_) = read {
         return sheet;
     }
     let net = sheet.net;
     let used = test_second(net, latches, gates);
-    if let Verdict::Refused(refusal, place) = used {
+    if let Err(Refused(refusal, place)) = used {
         return sheet_steps::refused(refusal, place);
     }
     renumber(net, latches);
     renumber(net, gates);
     SheetAnswer {
-        verdict: Verdict::Passed,
+        verdict: Ok(()),
         net: one_record(net),
     }
 }
 
 // Writes the sheet with one port that has the runs of a sheet, and answers its length; or refuses and writes nothing.
-pub fn convert(file: &[u8], out: &mut [u8]) -> PrintAnswer
-    ensures answer { print_reply result ≡ one_port_sent file.now (length out.old) }
+pub fn convert(file: &[u8], out: &mut [u8]) -> Written
+    ensures answer { count_reply result ≡ one_port_sent file.now (length out.old) }
     ensures borrowed { out.new ≡ one_port_leaves file.now out.old }
     ensures converted { OnePortTheorem }
 {
@@ -193,12 +192,10 @@ pub fn convert(file: &[u8], out: &mut [u8]) -> PrintAnswer
     let mut gates = sheet_tests::no_codes();
     let sheet = read_one_port(file, &mut latches, &mut gates);
     let read = sheet.verdict;
-    if let Verdict::Refused(refusal, place) = read {
-        return PrintAnswer::Refused(refusal, place);
-    }
+    read?;
     let net = sheet.net;
     if out.len() < 32 * (netlist::control_line(net) as usize) {
-        return PrintAnswer::Refused(Refusal::NoRoom, 0);
+        return Err(Refused(Refusal::NoRoom, 0));
     }
-    PrintAnswer::Written(sheet_writer::put_sheet(out, net, &latches, &gates))
+    Ok(sheet_writer::put_sheet(out, net, &latches, &gates))
 }

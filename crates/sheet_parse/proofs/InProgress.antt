@@ -7,10 +7,10 @@ use mathlib.Core.List.{List}
 use native.Mathlib.Omega.{arith}
 use lib.Dec.{ltb}
 use lib.ListN.{get_or, replicate, length-replicate}
+use Rattle.std.specs.Prelude.{Ok, Err}
+use Rattle.refusals.specs.Verdict.{Verdict, Passed}
 use Rattle.refusals.specs.Tests.{in_order, ◌then◌}
 use Rattle.refusals.specs.declared.Refusal.TheVariants as Word
-use Rattle.refusals.specs.declared.Verdict.{Verdict}
-use Rattle.refusals.specs.declared.Verdict.TheVariants.{Passed, Refused}
 use Rattle.model.specs.Gather.{gather}
 use Rattle.model.specs.Acceptance.{SizesFit}
 use Rattle.literals.specs.declared.Code.{Code}
@@ -161,12 +161,12 @@ module _ (file : List ℕ) (whole : WholeLines file) (p : ℕ) (r : Netlist) (la
       by-verdict : (v : Verdict) → at.sheet.verdict ≡ v → at.more ≡ passes v
           → Outcome at.sheet new_latches new_gates (test_line_in (net_in file) file (p + 1)) (net_to file (p + 1))
           → InProgress file (p + 1) at new_latches new_gates × (answers_left file (p + 1) at < line_count file + 1 - p)
-      by-verdict Passed e m o =
+      by-verdict (Ok _) e m o =
           let passed : test_line_in (net_in file) file (p + 1) ≡ Passed = sym (verdict-is o) ∙ e in
           let on : ReadTo file (p + 1) at.sheet.net new_latches new_gates =
           record { passed = next-passes (test_line_in (net_in file) file) p read.passed passed; holds = holds o passed } in
           (record { going = λ _. (there, on); ended = λ t. absurd (false≢true (sym t ∙ m)) }, rw m (omega arith))
-      by-verdict (Refused w q) e m o =
+      by-verdict (Err f) e m o =
           no_more (p + 1) m
           (outcome-kept new_latches new_gates (net_in file) o e
           (next-refuses (test_line_in (net_in file) file) p read.passed (line_count file) there (sym (verdict-is o) ∙ e)))

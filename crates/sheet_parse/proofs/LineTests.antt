@@ -10,12 +10,11 @@ use native.Mathlib.Numerals.{add-one}
 use native.Mathlib.Omega.{arith}
 use lib.Dec.{ltb}
 use borrow.Author.Tests.{lt-ltb, le-ltb, ltb-false, not-false}
+use Rattle.refusals.specs.Verdict.{Verdict, Passed, refuse}
 use Rattle.refusals.specs.Tests.{refuse_if, ◌then◌, in_order}
 use Rattle.refusals.specs.declared.Refusal.{Refusal}
 use Rattle.refusals.specs.declared.Refusal.TheVariants.{OutOfOrder, Size, CodeOutside}
 use Rattle.refusals.specs.declared.Refusal.TheVariants as Word
-use Rattle.refusals.specs.declared.Verdict.{Verdict}
-use Rattle.refusals.specs.declared.Verdict.TheVariants.{Passed, Refused}
 use Rattle.refusals.proofs.Tests.{refused-not-passed, refuse_if-passes, then-passes, in_order-suc, in_order-kept, in_order-passes}
 use Rattle.model.specs.Netlist as M
 use Rattle.model.specs.Acceptance.{SizesFit}
@@ -56,7 +55,7 @@ test-due c q ParsedLine.Misprint b h = absurd (false≢true h)
 test-due c q (ParsedLine.Read kind x y z u) b h = rw (le-ltb (control_line c) q b, h)
 
 -- a misprinted line
-pub test-misprint : (c : M.Netlist) (file : List ℕ) (q : ℕ) → line_in file q ≡ ParsedLine.Misprint → test_line_in c file q ≡ Refused Word.Misprint q
+pub test-misprint : (c : M.Netlist) (file : List ℕ) (q : ℕ) → line_in file q ≡ ParsedLine.Misprint → test_line_in c file q ≡ refuse Word.Misprint q
 unfolding test_line_in test_read
 test-misprint c file q e = rw e
 
@@ -183,5 +182,5 @@ module _ (test : ℕ → Verdict) (p : ℕ) (h : in_order test p ≡ Passed) whe
   pub next-passes : test (p + 1) ≡ Passed → in_order test (p + 1) ≡ Passed
   next-passes e = one_more ∙ e
 
-  pub next-refuses : (n : ℕ) {r : Refusal} {q : ℕ} → p + 1 ≤ n → test (p + 1) ≡ Refused r q → in_order test n ≡ Refused r q
+  pub next-refuses : (n : ℕ) {r : Refusal} {q : ℕ} → p + 1 ≤ n → test (p + 1) ≡ refuse r q → in_order test n ≡ refuse r q
   next-refuses n l e = in_order-kept test (p + 1) n l (one_more ∙ e)

@@ -1,8 +1,7 @@
 -- How far a file is read: what is there before the first line, and what one answer more does. Cited by the functions that go through a
 -- file line by line, by those that lend them lists, and by `no_codes`.
-use Rattle.std.specs.Prelude.{ℕ, Bool, true, false, List, replicate}
-use Rattle.refusals.specs.declared.Verdict.{Verdict}
-use Rattle.refusals.specs.declared.Verdict.TheVariants.{Passed, Refused}
+use Rattle.std.specs.Prelude.{ℕ, Bool, true, false, List, replicate, Ok, Err}
+use Rattle.refusals.specs.Verdict.{Verdict, Passed, refuse}
 use Rattle.model.specs.Netlist.{Netlist}
 use Rattle.netlist.specs.RecordOf.{no_netlist}
 use Rattle.sheet_steps.specs.Records.{sheet_answer}
@@ -23,8 +22,8 @@ no_progress = record { more = true; sheet = sheet_answer Passed no_netlist }
 
 -- behind a line there may be one more where it has passed
 abbrev pub passes : Verdict → Bool
-passes Passed = true
-passes (Refused r p) = false
+passes (Ok _) = true
+passes (Err e) = false
 
 abbrev pub progress_with : SheetAnswer → Progress
 progress_with sheet = record { more = passes sheet.verdict; sheet = sheet }
@@ -33,7 +32,7 @@ progress_with sheet = record { more = passes sheet.verdict; sheet = sheet }
 -- may be one line more
 abbrev pub answer_verdict : Netlist → LineAnswer → ℕ → Verdict
 answer_verdict c (Answer.Line kind x y z e) p = step_verdict c kind x y z e p
-answer_verdict c (Answer.Refused r q) p = Refused r q
+answer_verdict c (Answer.Refused r q) p = refuse r q
 answer_verdict c Answer.NoLine p = Passed
 
 abbrev pub answer_net : Netlist → LineAnswer → ℕ → Netlist

@@ -13,7 +13,7 @@ ghost use Rattle.sheet_parse.specs.FileTests.{ragged};
 ghost use Rattle.sheet_parse.specs.Progress.{no_progress, progress_with, answer_verdict, answer_net, more_after, no_line_after, line_after};
 
 use netlist::UnpackedList;
-use refusals::{Refusal, Verdict};
+use refusals::{Refusal, Refused};
 use sheet_lines::{Kind, ParsedLine};
 use sheet_steps::SheetAnswer;
 
@@ -171,7 +171,7 @@ pub fn no_progress() -> Progress
     Progress {
         more: true,
         sheet: SheetAnswer {
-            verdict: Verdict::Passed,
+            verdict: Ok(()),
             net: netlist::empty_net(),
         },
     }
@@ -183,8 +183,8 @@ fn progress_with(sheet: SheetAnswer) -> Progress
 {
     let verdict = sheet.verdict;
     let more = match verdict {
-        Verdict::Passed => true,
-        Verdict::Refused(_, _) => false,
+        Ok(()) => true,
+        Err(_) => false,
     };
     Progress { more, sheet }
 }
@@ -217,7 +217,7 @@ pub fn take_answer(
         LineAnswer::NoLine => Progress {
             more: false,
             sheet: SheetAnswer {
-                verdict: Verdict::Passed,
+                verdict: Ok(()),
                 net,
             },
         },

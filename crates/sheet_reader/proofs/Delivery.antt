@@ -5,8 +5,8 @@ use mathlib.Core.Path.{◌≡◌, refl, sym, ◌∙◌, ap}
 use mathlib.Core.List.{List}
 use native.Mathlib.Omega.{arith}
 use lib.ListN.{length}
-use Rattle.refusals.specs.declared.Verdict.{Verdict}
-use Rattle.refusals.specs.declared.Verdict.TheVariants.{Passed, Refused}
+use Rattle.std.specs.Prelude.{Ok, Err}
+use Rattle.refusals.specs.Verdict.{Verdict, Passed, refuse}
 use Rattle.refusals.specs.Slices.{contents_after}
 use Rattle.model.specs.Netlist as M
 use Rattle.model.specs.Acceptance.{Accepted}
@@ -99,10 +99,10 @@ module _ {v : Verdict} {c : M.Netlist} (latches : List LatchEntry) (gates : List
   deliverable = by-verdict v refl
     where
       by-verdict : (w : Verdict) → v ≡ w → Deliverable
-      by-verdict Passed e =
+      by-verdict (Ok _) e =
           let sizes = (fits.accepted e).limits.sizes in
           rw (record_is outcome, e) ((sizes.latches-fit, fits.latches-long e), (sizes.gates-fit, fits.gates-long e))
-      by-verdict (Refused r p) e = rw (record_is outcome, e) ((omega arith, omega arith), (omega arith, omega arith))
+      by-verdict (Err f) e = rw (record_is outcome, e) ((omega arith, omega arith), (omega arith, omega arith))
 
   abbrev pub new_latches : List LatchEntry
   new_latches = delivered sheet.net.latches (latch_at latch_list) latches
@@ -139,18 +139,18 @@ module _ {v : Verdict} {c : M.Netlist} (latches : List LatchEntry) (gates : List
   latches-are = by-verdict v refl
     where
       by-verdict : (w : Verdict) → v ≡ w → new_latches ≡ latches_beside v c latches
-      by-verdict Passed e = rw e (latches-of e)
-      by-verdict (Refused r p) e =
-          let net : sheet.net ≡ record_beside (Refused r p) c = record_is outcome ∙ rw e in rw e (rw net (delivered-none (latch_at latch_list) latches))
+      by-verdict (Ok _) e = rw e (latches-of e)
+      by-verdict (Err f) e =
+          let net : sheet.net ≡ record_beside (refuse r p) c = record_is outcome ∙ rw e in rw e (rw net (delivered-none (latch_at latch_list) latches))
 
   pub gates-are : new_gates ≡ gates_beside v c gates
   unfolding gates_beside contents_after delivered record_beside record_of
   gates-are = by-verdict v refl
     where
       by-verdict : (w : Verdict) → v ≡ w → new_gates ≡ gates_beside v c gates
-      by-verdict Passed e = rw e (gates-of e)
-      by-verdict (Refused r p) e =
-          let net : sheet.net ≡ record_beside (Refused r p) c = record_is outcome ∙ rw e in rw e (rw net (delivered-none (gate_at gate_list) gates))
+      by-verdict (Ok _) e = rw e (gates-of e)
+      by-verdict (Err f) e =
+          let net : sheet.net ≡ record_beside (refuse r p) c = record_is outcome ∙ rw e in rw e (rw net (delivered-none (gate_at gate_list) gates))
 
   -- the lists stay as long as they were
   pub latches-length : length new_latches ≡ length latches

@@ -4,7 +4,7 @@ use Prim.Native.Nat.{ℕ}
 use mathlib.Core.Path.{◌≡◌, sym, ◌∙◌, ap}
 use mathlib.Core.List.{List}
 use lib.ListN.{length}
-use Rattle.refusals.specs.declared.Verdict.TheVariants.{Passed}
+use Rattle.refusals.specs.Verdict.{Passed}
 use Rattle.refusals.specs.Refusal.{reply_of}
 use Rattle.refusals.proofs.Table.{reply-passed}
 use Rattle.model.specs.Acceptance.{PathTheorem}

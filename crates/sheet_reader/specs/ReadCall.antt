@@ -1,9 +1,8 @@
 -- What `read` returns and leaves in the lists that it is lent (RULES T45, "only the first L and the first A records of the lent
 -- lists change", and T43, "a record that is returned beside them is all zeros"). Cited by `read` and `marrubigai_read`.
 use Rattle.std.specs.Prelude.{ℕ, ◌≤◌, ◌≡◌, List, length}
+use Rattle.refusals.specs.Verdict.{Verdict, Passed}
 use Rattle.model.specs.Limits.{most_depth}
-use Rattle.refusals.specs.declared.Verdict.{Verdict}
-use Rattle.refusals.specs.declared.Verdict.TheVariants.{Passed}
 use Rattle.netlist.specs.declared.Netlist.{Netlist}
 use Rattle.netlist_tests.specs.Record.{record_verdict}
 use Rattle.sheet_parse.specs.Files.{net_in}

@@ -6,9 +6,8 @@ use mathlib.Core.List.{List}
 use native.Mathlib.Omega.{arith}
 use lib.ListN.{length, take}
 use lib.Seq.{take-suc, take_all}
+use Rattle.refusals.specs.Verdict.{Verdict, Passed, refuse}
 use Rattle.refusals.specs.declared.Refusal.{Refusal}
-use Rattle.refusals.specs.declared.Verdict.{Verdict}
-use Rattle.refusals.specs.declared.Verdict.TheVariants.{Passed, Refused}
 use Rattle.model.specs.Netlist as M
 use Rattle.model.specs.Gather.{gather}
 use Rattle.literals.specs.declared.Code.{Code}
@@ -66,16 +65,16 @@ module _ {sheet : SheetAnswer} {latches gates : List ℕ} {v : Verdict} {c : M.N
 
 module _ {v : Verdict} (latches gates : List ℕ) (c : M.Netlist) where
   -- a refusal
-  pub outcome-refused : {r : Refusal} {p : ℕ} → v ≡ Refused r p → Outcome (refused_at r p) latches gates v c
+  pub outcome-refused : {r : Refusal} {p : ℕ} → v ≡ refuse r p → Outcome (refused_at r p) latches gates v c
   unfolding record_beside
   outcome-refused e = rw e (record { answer-is = refl; lists-are = tt })
 
   -- a refusal that was the answer before
   pub outcome-kept : {sheet : SheetAnswer} {w : Verdict} {d : M.Netlist} {r : Refusal} {p : ℕ} → Outcome sheet latches gates w d
-      → sheet.verdict ≡ Refused r p → v ≡ Refused r p → Outcome sheet latches gates v c
+      → sheet.verdict ≡ refuse r p → v ≡ refuse r p → Outcome sheet latches gates v c
   unfolding record_beside
   outcome-kept {sheet} {w} {d} {r} {p} o told e =
-      let was : w ≡ Refused r p = sym (verdict-is o) ∙ told in
+      let was : w ≡ refuse r p = sym (verdict-is o) ∙ told in
       let is : sheet ≡ refused_at r p = o.answer-is ∙ rw was in
       rw is (outcome-refused e)
 
@@ -90,4 +89,4 @@ module _ {v : Verdict} (latches gates : List ℕ) (c : M.Netlist) where
 pub outcome-same : {sheet : SheetAnswer} {latches gates : List ℕ} {v : Verdict} {c d : M.Netlist} (w : Verdict) → v ≡ w → (w ≡ Passed → c ≡ d)
     → Outcome sheet latches gates v c → Outcome sheet latches gates w d
 outcome-same {latches = latches} {gates = gates} {d = d} Passed e same o = rw (← same refl, ← e) o
-outcome-same {latches = latches} {gates = gates} {d = d} (Refused r p) e same o = outcome-kept latches gates d o (verdict-is o ∙ e) refl
+outcome-same {latches = latches} {gates = gates} {d = d} (refuse r p) e same o = outcome-kept latches gates d o (verdict-is o ∙ e) refl

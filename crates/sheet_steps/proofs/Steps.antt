@@ -10,8 +10,8 @@ use lib.Dec.{eqb, ltb}
 use lib.ListN.{length, get_or, set}
 use lib.Seq.{get_or-set_same, get_or-set_other}
 use borrow.Author.Tests.{eq-eqb, ne_eqb}
+use Rattle.refusals.specs.Verdict.{refuse}
 use Rattle.refusals.specs.declared.Refusal.TheVariants.{OutOfOrder}
-use Rattle.refusals.specs.declared.Verdict.TheVariants.{Refused}
 use Rattle.literals.specs.declared.Code.{Code}
 use Rattle.model.specs.Netlist as M
 use Rattle.model.specs.Agree.{sizes_of, SameSizes}
@@ -100,7 +100,7 @@ module _ (c : M.Netlist) (kind : Kind) (p : ℕ) where
   out_of_order = ltb (control_line c) p || not (is_due (line_at c p) kind)
 
   module _ (x y z e : ℕ) where
-    pub step-refused : out_of_order ≡ true → step_verdict c kind x y z e p ≡ Refused OutOfOrder p
+    pub step-refused : out_of_order ≡ true → step_verdict c kind x y z e p ≡ refuse OutOfOrder p
     unfolding step_verdict ◌then◌
     step-refused h = rw h
 

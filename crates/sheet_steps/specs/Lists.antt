@@ -1,8 +1,7 @@
 -- What the two unpacked lists hold, with the record or beside a verdict (RULES W16, W17). Cited by the functions that store a line, `read_sheet` and
 -- `read_input`, and sheet_steps/specs/Steps, which passes on what holds.
-use Rattle.std.specs.Prelude.{ℕ, ◌≡◌, List, length}
-use Rattle.refusals.specs.declared.Verdict.{Verdict}
-use Rattle.refusals.specs.declared.Verdict.TheVariants.{Passed, Refused}
+use Rattle.std.specs.Prelude.{ℕ, ◌≡◌, List, length, Ok, Err}
+use Rattle.refusals.specs.Verdict.{Verdict}
 use Rattle.model.specs.Netlist.{Netlist}
 use Rattle.netlist.specs.NetOf.{net_of}
 use Rattle.netlist.specs.declared.Netlist as R
@@ -26,5 +25,5 @@ Scratch latches gates = Unit {0}
 
 -- what the lists hold beside a verdict: with the record they stand for c; after a refusal they are scratch
 abbrev pub ListsBeside : Verdict → R.Netlist → List ℕ → List ℕ → Netlist → Type 0
-ListsBeside Passed r latches gates c = Holds r latches gates c
-ListsBeside (Refused w p) r latches gates c = Scratch latches gates
+ListsBeside (Ok _) r latches gates c = Holds r latches gates c
+ListsBeside (Err e) r latches gates c = Scratch latches gates

@@ -1,9 +1,9 @@
 -- What one line more does: its numbers put into the netlist read so far, and its tests there. Cited by the functions that take one
 -- line more, by those that read a whole file, sheet_parse/specs/Progress and sheet_tests/specs/LinesPassed.
 use Rattle.std.specs.Prelude.{ℕ, ◌≤◌, ◌≡◌, cond, not, ◌||◌, List, ltb}
+use Rattle.refusals.specs.Verdict.{Verdict}
 use Rattle.refusals.specs.Tests.{refuse_if, ◌then◌}
 use Rattle.refusals.specs.declared.Refusal.TheVariants.{OutOfOrder}
-use Rattle.refusals.specs.declared.Verdict.{Verdict}
 use Rattle.model.specs.Netlist.{Netlist}
 use Rattle.model.specs.Acceptance.{SizesFit}
 use Rattle.netlist.specs.NetOf.{net_of}

@@ -16,7 +16,7 @@ ghost use Rattle.sheet_steps.specs.Steps.{stored, StoredIn, Outcome, SizesKnown,
 ghost use Rattle.sheet_steps.specs.Lists.{FullLength, Holds};
 
 use netlist::{Line, Netlist, UnpackedList};
-use refusals::{Refusal, Verdict};
+use refusals::{Refusal, Refused, Verdict};
 use sheet_lines::Kind;
 
 // What a sheet is read as: the verdict of its tests, and the record, all zeros at a refusal.
@@ -31,7 +31,7 @@ pub fn refused(refusal: Refusal, place: u32) -> SheetAnswer
     ensures { result ≡ refused_at refusal place }
 {
     SheetAnswer {
-        verdict: Verdict::Refused(refusal, place),
+        verdict: Err(Refused(refusal, place)),
         net: netlist::empty_net(),
     }
 }
@@ -218,20 +218,20 @@ fn test_stored(
 {
     if place < 2 {
         if netlist::sizes_fault(net) {
-            return Verdict::Refused(Refusal::Size, place);
+            return Err(Refused(Refusal::Size, place));
         }
-        return Verdict::Passed;
+        return Ok(());
     }
     if place < 3 {
         if netlist::memory_fault(net) {
-            return Verdict::Refused(Refusal::Size, place);
+            return Err(Refused(Refusal::Size, place));
         }
-        return Verdict::Passed;
+        return Ok(());
     }
     if netlist::code_fault(net, latches, gates, due) {
-        return Verdict::Refused(Refusal::CodeOutside, place);
+        return Err(Refused(Refusal::CodeOutside, place));
     }
-    Verdict::Passed
+    Ok(())
 }
 
 // A line that was read, taken for the line due: refusals 3, 4 and 5, and its numbers put into the record and the lists. After a
@@ -256,7 +256,7 @@ pub fn take_line(
     }
     let next = store(net, latches, gates, due, kind, first, second, third, empty);
     let verdict = test_stored(next, latches, gates, due, place);
-    if let Verdict::Refused(refusal, at) = verdict {
+    if let Err(Refused(refusal, at)) = verdict {
         return refused(refusal, at);
     }
     SheetAnswer { verdict, net: next }

@@ -6,10 +6,10 @@ use mathlib.Core.List.{List}
 use native.Mathlib.Omega.{arith}
 use lib.Dec.{ltb}
 use borrow.Author.Tests.{ltb-false}
+use Rattle.refusals.specs.Verdict.{Passed, refuse}
 use Rattle.refusals.specs.Tests.{refuse_if, ◌then◌, in_order}
 use Rattle.refusals.specs.declared.Refusal.{Refusal}
 use Rattle.refusals.specs.declared.Refusal.TheVariants.{Ragged, OutOfOrder, NoRoom}
-use Rattle.refusals.specs.declared.Verdict.TheVariants.{Passed, Refused}
 use Rattle.refusals.proofs.Tests.{refuse_if-passes, then-passes, passed_then}
 use Rattle.model.specs.Netlist as M
 use Rattle.model.specs.Acceptance.{Accepted}
@@ -82,7 +82,7 @@ module _ (file : List ℕ) (latch_room gate_room : ℕ) where
   short = lists_short (net_in file) latch_room gate_room
 
   -- the verdict, where the file is refused, where a list has too little room, and where neither is so
-  pub sheet-refused : {r : Refusal} {p : ℕ} → file_verdict file ≡ Refused r p → sheet_verdict file latch_room gate_room ≡ Refused r p
+  pub sheet-refused : {r : Refusal} {p : ℕ} → file_verdict file ≡ refuse r p → sheet_verdict file latch_room gate_room ≡ refuse r p
   unfolding sheet_verdict ◌then◌
   sheet-refused e = rw e
 
@@ -90,7 +90,7 @@ module _ (file : List ℕ) (latch_room gate_room : ℕ) where
   unfolding sheet_verdict
   by-room e = rw (e, passed_then _)
 
-  pub sheet-short : file_verdict file ≡ Passed → short ≡ true → sheet_verdict file latch_room gate_room ≡ Refused NoRoom 0
+  pub sheet-short : file_verdict file ≡ Passed → short ≡ true → sheet_verdict file latch_room gate_room ≡ refuse NoRoom 0
   sheet-short e h = by-room e ∙ rw h
 
   pub sheet-passed : file_verdict file ≡ Passed → short ≡ false → sheet_verdict file latch_room gate_room ≡ Passed

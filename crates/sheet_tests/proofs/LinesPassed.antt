@@ -3,8 +3,8 @@ use Prim.Native.Nat.{ℕ, ◌≤◌}
 use mathlib.Core.Path.{◌≡◌, refl, sym, ◌∙◌, ap, subst}
 use mathlib.Core.List.{List, []}
 use native.Mathlib.Omega.{arith}
+use Rattle.refusals.specs.Verdict.{Passed}
 use Rattle.refusals.specs.Tests.{in_order}
-use Rattle.refusals.specs.declared.Verdict.TheVariants.{Passed}
 use Rattle.model.specs.Netlist as M
 use Rattle.model.specs.Acceptance.{SizesFit, WithinLimits}
 use Rattle.netlist.specs.NetOf.{net_of}

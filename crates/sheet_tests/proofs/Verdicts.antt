@@ -4,10 +4,10 @@ use mathlib.Core.Path.{◌≡◌}
 use mathlib.Core.Bool.{true, false}
 use mathlib.Core.List.{List, []}
 use borrow.Author.Tests.{lt-ltb, le-ltb}
+use Rattle.refusals.specs.Verdict.{Passed, refuse}
 use Rattle.refusals.specs.Tests.{in_order, ◌then◌}
 use Rattle.refusals.specs.declared.Refusal.{Refusal}
 use Rattle.refusals.specs.declared.Refusal.TheVariants.{Ragged, OutOfOrder}
-use Rattle.refusals.specs.declared.Verdict.TheVariants.{Passed, Refused}
 use Rattle.model.specs.Netlist as M
 use Rattle.netlist.specs.NetOf.{net_of}
 use Rattle.netlist.specs.Places.{control_line}
@@ -19,7 +19,7 @@ use Rattle.sheet_parse.specs.FileTests.{ragged, test_line_in}
 use Rattle.sheet_tests.specs.Sheet.{end_verdict, file_verdict}
 
 -- behind the last line: one is missing, or none is
-pub end-missing : (c : M.Netlist) (count : ℕ) → count < control_line c → end_verdict c count ≡ Refused OutOfOrder (count + 1)
+pub end-missing : (c : M.Netlist) (count : ℕ) → count < control_line c → end_verdict c count ≡ refuse OutOfOrder (count + 1)
 unfolding end_verdict ◌then◌
 end-missing c count h = rw (lt-ltb count (control_line c) h)
 
@@ -34,12 +34,12 @@ end-latches r latches gates count = rw (test-ports-latches r latches gates)
 
 -- the file is ragged, or a line is refused, or all lines pass
 module _ (file : List ℕ) where
-  pub file-ragged : ragged file ≡ true → file_verdict file ≡ Refused Ragged 0
+  pub file-ragged : ragged file ≡ true → file_verdict file ≡ refuse Ragged 0
   unfolding file_verdict ◌then◌
   file-ragged e = rw e
 
-  pub file-refused : {r : Refusal} {p : ℕ} → ragged file ≡ false → in_order (test_line_in (net_in file) file) (line_count file) ≡ Refused r p
-      → file_verdict file ≡ Refused r p
+  pub file-refused : {r : Refusal} {p : ℕ} → ragged file ≡ false → in_order (test_line_in (net_in file) file) (line_count file) ≡ refuse r p
+      → file_verdict file ≡ refuse r p
   unfolding file_verdict ◌then◌
   file-refused e h = rw (e, h)
 

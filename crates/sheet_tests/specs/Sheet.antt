@@ -2,10 +2,10 @@
 -- of a line, and the first faulty line. It is not the reader's own way through the file. Cited by `test_end`, `test_file`,
 -- sheet_tests/specs/Codes, sheet_reader/specs/ReadCall, program_input/specs/Input and calls/specs/Starred.
 use Rattle.std.specs.Prelude.{ℕ, ◌+◌, List, ltb}
+use Rattle.refusals.specs.Verdict.{Verdict}
 use Rattle.model.specs.Netlist.{Netlist}
 use Rattle.refusals.specs.Tests.{refuse_if, ◌then◌, in_order}
 use Rattle.refusals.specs.declared.Refusal.TheVariants.{Ragged, OutOfOrder, NoRoom}
-use Rattle.refusals.specs.declared.Verdict.{Verdict}
 use Rattle.netlist.specs.Places.{control_line}
 use Rattle.netlist_tests.specs.Record.{lists_short, test_ports}
 use Rattle.sheet_parse.specs.Files.{line_count, net_in}

@@ -12,7 +12,7 @@ ghost use Rattle.sheet_tests.specs.LinesPassed.{LinesPassed};
 ghost use Rattle.sheet_tests.specs.Codes.{CodesRead};
 
 use netlist::{Netlist, UnpackedList};
-use refusals::{Refusal, Verdict};
+use refusals::{Refusal, Refused, Verdict};
 use sheet_steps::SheetAnswer;
 
 // 600 records of two codes, all 0.
@@ -28,10 +28,10 @@ fn test_end(net: Netlist, gates: &UnpackedList, count: u32) -> Verdict
     ensures { result ≡ end_verdict (net_of net [] gates.now) count }
 {
     if count < 3 {
-        return Verdict::Refused(Refusal::OutOfOrder, count + 1);
+        return Err(Refused(Refusal::OutOfOrder, count + 1));
     }
     if count < netlist::control_line(net) {
-        return Verdict::Refused(Refusal::OutOfOrder, count + 1);
+        return Err(Refused(Refusal::OutOfOrder, count + 1));
     }
     netlist_tests::test_ports(net, gates)
 }
@@ -47,13 +47,13 @@ fn test_file(file: &[u8], latches: &mut UnpackedList, gates: &mut UnpackedList) 
     }
     let sheet = sheet_loop::read_lines(file, latches, gates);
     let read = sheet.verdict;
-    if let Verdict::Refused(_, _) = read {
+    if let Err(_) = read {
         return sheet;
     }
     let net = sheet.net;
     let count = (file.len() / 32) as u32;
     let ended = test_end(net, gates, count);
-    if let Verdict::Refused(refusal, place) = ended {
+    if let Err(Refused(refusal, place)) = ended {
         return sheet_steps::refused(refusal, place);
     }
     sheet
@@ -73,7 +73,7 @@ pub fn read_codes(
 {
     let sheet = test_file(file, latches, gates);
     let tested = sheet.verdict;
-    if let Verdict::Refused(_, _) = tested {
+    if let Err(_) = tested {
         return sheet;
     }
     let net = sheet.net;

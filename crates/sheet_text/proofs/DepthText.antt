@@ -8,9 +8,9 @@ use lib.Dec.{eqb, leb}
 use lib.ListN.{length, get_or, take, drop, take-append-drop}
 use lib.Seq.{length-take-le, drop-cons}
 use borrow.Author.Tests.{eqb-true, leb-true}
+use Rattle.refusals.specs.Verdict.{Passed}
 use Rattle.model.proofs.Booleans.{and-true}
 use Rattle.refusals.specs.declared.Refusal.TheVariants.{Misprint}
-use Rattle.refusals.specs.declared.Verdict.TheVariants.{Passed}
 use Rattle.refusals.proofs.Tests.{refuse_if-passes, first_passes}
 use Rattle.decimal.specs.Digits.{line_feed, field}
 use Rattle.sheet_fields.specs.Fields.{field_of}

@@ -8,9 +8,9 @@ use native.Mathlib.Omega.{arith}
 use lib.Dec.{eqb}
 use lib.ListN.{get_or, length, take, drop}
 use borrow.Author.Tests.{eqb-true, ne_eqb, lt-ltb}
+use Rattle.refusals.specs.Verdict.{Passed}
 use Rattle.model.proofs.Gather.{gathers_same}
 use Rattle.refusals.specs.declared.Refusal.TheVariants.{Ragged}
-use Rattle.refusals.specs.declared.Verdict.TheVariants.{Passed}
 use Rattle.refusals.proofs.Tests.{refuse_if-passes, first_passes, in_order-passes}
 use Rattle.netlist.specs.Places.{control_line, line_at, HasLine}
 use Rattle.netlist.specs.declared.Line.{Line}

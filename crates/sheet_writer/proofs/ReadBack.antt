@@ -7,12 +7,12 @@ use mathlib.Core.List.{List}
 use native.Mathlib.Omega.{arith}
 use lib.ListN.{length}
 use borrow.Author.Tests.{eq-eqb, ne_eqb, le-ltb}
+use Rattle.refusals.specs.Verdict.{Passed}
 use Rattle.model.specs.Netlist.{Netlist}
 use Rattle.model.specs.Acceptance.{Accepted}
 use Rattle.model.specs.Agree.{Agree}
 use Rattle.model.proofs.Agree.{accepted-same, latches-same, gates-same}
 use Rattle.refusals.specs.Tests.{in_order}
-use Rattle.refusals.specs.declared.Verdict.TheVariants.{Passed}
 use Rattle.refusals.proofs.Tests.{passed_then, in_order-passes}
 use Rattle.netlist.specs.Places.{control_line, line_at}
 use Rattle.netlist.specs.Faults.{size_fault, code_fault}

@@ -3,11 +3,11 @@ use Prim.Native.Nat.{ℕ}
 use mathlib.Core.Path.{◌≡◌, sym, ◌∙◌}
 use mathlib.Core.List.{List}
 use lib.ListN.{length}
+use Rattle.refusals.specs.Verdict.{Passed}
 use Rattle.model.specs.Netlist.{Netlist, IsPort}
 use Rattle.model.specs.Agree.{Agree}
 use Rattle.model.proofs.Agree.{latches-same, gates-same, m-same, n-same, second-same}
 use Rattle.refusals.specs.Slices.{contents_after}
-use Rattle.refusals.specs.declared.Verdict.TheVariants.{Passed}
 use Rattle.netlist_tests.proofs.Acceptance.{passes-accepted}
 use Rattle.sheet_steps.specs.Records.{record_beside}
 use Rattle.sheet_parse.specs.Files.{net_in}

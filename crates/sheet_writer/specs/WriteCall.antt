@@ -1,13 +1,12 @@
 -- What a call that writes a sheet back answers and leaves (RULES B3), and what the sheet is to the record and to `read` (RULES B4 to B6).
 -- Cited by `write_sheet` and `marrubigai_write_sheet`.
 use Rattle.std.specs.Prelude.{ℕ, ◌≤◌, ◌≡◌, List, length}
+use Rattle.refusals.specs.Verdict.{Verdict, Passed}
 use Rattle.model.specs.Netlist.{Netlist}
 use Rattle.model.specs.Agree.{Agree}
 use Rattle.refusals.specs.Tests.{◌then◌}
 use Rattle.refusals.specs.Slices.{test_room, with_count, contents_after}
 use Rattle.refusals.specs.declared.CountReply.{CountReply}
-use Rattle.refusals.specs.declared.Verdict.{Verdict}
-use Rattle.refusals.specs.declared.Verdict.TheVariants.{Passed}
 use Rattle.netlist_tests.specs.Record.{record_verdict}
 use Rattle.call_lists.specs.declared.LatchEntry.{LatchEntry}
 use Rattle.call_lists.specs.declared.GateEntry.{GateEntry}

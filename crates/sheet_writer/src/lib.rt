@@ -4,21 +4,20 @@
 ghost use Rattle.std.specs.Prelude.{◌≡◌, cond, ℕ, ◌*◌, ◌≤◌, ◌<◌, length};
 ghost use Rattle.model.specs.Acceptance.{SizesFit};
 ghost use Rattle.model.specs.Wrote.{Wrote};
+ghost use Rattle.refusals.specs.Slices.{count_reply};
 ghost use Rattle.netlist.specs.NetOf.{net_of, alone};
 ghost use Rattle.netlist.specs.Places.{control_line, line_at, HasLine};
 ghost use Rattle.sheet_fields.specs.declared.Field.TheVariants.{Empty, Filled};
 ghost use Rattle.sheet_lines.specs.Letters.{row_of, content_of};
 ghost use Rattle.sheet_lines.specs.Lines.{printed_field, field_text};
-ghost use Rattle.dimacs.specs.PrintCalls.{print_reply};
 ghost use Rattle.sheet_text.specs.SheetText.{sheet_text};
 ghost use Rattle.sheet_text.specs.PrintedAt.{memory_kind, printed_at};
 ghost use Rattle.sheet_writer.specs.Printed.{printed_line, printed_text};
 ghost use Rattle.sheet_writer.specs.WriteCall.{write_sent, write_leaves, SheetWritten};
 
 use decimal::put_field;
-use dimacs::PrintAnswer;
 use netlist::{Line, Netlist, UnpackedList};
-use refusals::{Refusal, Verdict};
+use refusals::{Refusal, Refused, Written};
 use sheet_lines::{Kind, MAY_BE_EMPTY, MUST_BE_FILLED};
 use text_writer::{write_byte, write_word};
 
@@ -232,22 +231,20 @@ pub fn write_sheet(
     gates: &UnpackedList,
     gate_count: usize,
     out: &mut [u8],
-) -> PrintAnswer
-    ensures answer { print_reply result ≡ write_sent (net_of net latches.now gates.now) latch_count gate_count (length out.old) }
+) -> Written
+    ensures answer { count_reply result ≡ write_sent (net_of net latches.now gates.now) latch_count gate_count (length out.old) }
     ensures borrowed { out.new ≡ write_leaves (net_of net latches.now gates.now) latch_count gate_count out.old }
     ensures written { SheetWritten }
 {
-    if let Verdict::Refused(refusal, place) = netlist_tests::test_record(
+    netlist_tests::test_record(
         net,
         latches,
         latch_count,
         gates,
         gate_count,
-    ) {
-        return PrintAnswer::Refused(refusal, place);
-    }
+    )?;
     if out.len() < 32 * (netlist::control_line(net) as usize) {
-        return PrintAnswer::Refused(Refusal::NoRoom, 0);
+        return Err(Refused(Refusal::NoRoom, 0));
     }
-    PrintAnswer::Written(put_sheet(out, net, latches, gates))
+    Ok(put_sheet(out, net, latches, gates))
 }

@@ -6,13 +6,13 @@ use native.Mathlib.Omega.{arith}
 use borrow.Author.Rules.{rules}
 use lib.ListN.{length, take}
 use lib.Seq.{length-take-le}
+use Rattle.refusals.specs.Verdict.{Passed}
 use Rattle.refusals.specs.Tests.{◌then◌}
 use Rattle.refusals.specs.Slices.{with_count, contents_after}
-use Rattle.refusals.specs.declared.Verdict.TheVariants.{Passed}
 use Rattle.refusals.proofs.Slices.{room-enough, room-short}
 use Rattle.netlist.specs.NetOf.{net_of}
 use Rattle.group_counts.proofs.Counted.{wrote-front}
-use Rattle.dimacs.specs.PrintCalls.{print_reply}
+use Rattle.refusals.specs.Slices.{count_reply}
 use Rattle.aiger_export.specs.ExportCall.{export_text, test_export, export_verdict, export_sent, export_leaves}
 use Rattle.aiger_export.proofs.ExportCall.{accepted, single-port}
 use Rattle.aiger_export.proofs.Exported.{exported}
@@ -20,7 +20,7 @@ use Rattle.aiger_export.proofs.export_binary.Goals as goal
 use Rattle.aiger_export.proofs.export_binary.Goals.{After-put_file-count, In_default}
 
 pub returns-in-Refused : goal.returns-in-Refused
-unfolding print_reply export_verdict export_sent export_leaves with_count contents_after ◌then◌
+unfolding count_reply export_verdict export_sent export_leaves with_count contents_after ◌then◌
 returns-in-Refused c =
     let v = sym c.test_export.ensures ∙ c.in-Refused.is in
     record { answer = rw v; borrowed = rw v; exported = exported }
@@ -37,7 +37,7 @@ pub put_file-count-requires : goal.put_file-count-requires
 put_file-count-requires c = ((accepted _ _ _ (passed (goal.at.put_file-count-requires c).In_default)).limits, search rules, single (goal.at.put_file-count-requires c).In_default)
 
 pub returns-then-out-count : goal.returns-then-out-count
-unfolding print_reply export_verdict export_sent export_leaves with_count contents_after ◌then◌
+unfolding count_reply export_verdict export_sent export_leaves with_count contents_after ◌then◌
 returns-then-out-count c =
     let v = passed (goal.at.returns-then-out-count c).In_default in
     let w = c.put_file-count.ensures.0 in
@@ -60,7 +60,7 @@ write_word-requires c =
     omega (arith, e, c.if-out-count.false)
 
 pub returns : goal.returns
-unfolding print_reply export_verdict export_sent export_leaves with_count contents_after ◌then◌
+unfolding count_reply export_verdict export_sent export_leaves with_count contents_after ◌then◌
 returns c =
     let v = passed (goal.at.returns c).In_default in
     let w = c.put_file-count.ensures.0 in

@@ -4,8 +4,8 @@ use Prim.Native.Nat.{◌≤◌}
 use mathlib.Core.Path.{◌≡◌, sym, ◌∙◌}
 use native.Mathlib.Omega.{arith}
 use borrow.Author.Tests.{lt-ltb, le-ltb}
+use Rattle.refusals.specs.Verdict.{Passed}
 use Rattle.refusals.specs.Tests.{◌then◌}
-use Rattle.refusals.specs.declared.Verdict.TheVariants.{Passed}
 use Rattle.netlist.specs.NetOf.{net_of}
 use Rattle.netlist_tests.specs.Record.{record_verdict}
 use Rattle.netlist_tests.proofs.Acceptance.{passes-accepted}

@@ -1,8 +1,8 @@
 -- `aiger_import::import_text` meets its contract: each test refuses, or the next one may assume what it has passed.
 
 use mathlib.Core.Path.{◌≡◌, sym, ◌∙◌}
+use Rattle.refusals.specs.Verdict.{Passed}
 use Rattle.refusals.specs.declared.Refusal.TheVariants.{Size}
-use Rattle.refusals.specs.declared.Verdict.TheVariants.{Passed}
 use Rattle.netlist.specs.RecordOf.{record_of}
 use Rattle.netlist.specs.Faults.{size_fault}
 use Rattle.netlist_tests.specs.Record.{test_lines, test_ports}

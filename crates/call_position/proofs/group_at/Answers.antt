@@ -8,7 +8,7 @@ use Rattle.refusals.specs.Tests.{◌then◌}
 use Rattle.refusals.specs.Slices.{with_count, contents_after}
 use Rattle.netlist.specs.NetOf.{net_of}
 use Rattle.netlist.proofs.NetOf.{sizes-lists}
-use Rattle.call_unpacked.specs.Calls.{group_reply, test_group_room}
+use Rattle.call_unpacked.specs.Calls.{count_reply, test_group_room}
 use Rattle.call_unpacked.proofs.Calls.{group-shown}
 use Rattle.call_position.specs.GroupsAt.{group_at_verdict, group_at_sent, group_at_leaves}
 use Rattle.call_position.proofs.Positions.{test_frame-lists}
@@ -17,7 +17,7 @@ use Rattle.call_position.proofs.group_at.Goals as goal
 use Rattle.call_position.proofs.group_at.Goals.{After-test_frame}
 
 pub returns-in-Refused : goal.returns-in-Refused
-unfolding group_reply group_at_sent group_at_leaves with_count contents_after ◌then◌
+unfolding count_reply group_at_sent group_at_leaves with_count contents_after ◌then◌
 returns-in-Refused c =
     let v = group-at-tested _ _ _ c.args.position c.args.group (length c.args.out.now) (sym c.in-Refused.is ∙ c.test_group.ensures) refl in
     record { answer = rw v; borrowed = rw v }
@@ -38,7 +38,7 @@ tested c room =
     (c.test_frame.ensures ∙ test_frame-lists c.args.net c.args.latches.now c.args.gates.now c.args.position c.args.position.frame)
 
 pub returns-in-Refused-test_frame : goal.returns-in-Refused-test_frame
-unfolding group_reply group_at_sent group_at_leaves with_count contents_after ◌then◌
+unfolding count_reply group_at_sent group_at_leaves with_count contents_after ◌then◌
 returns-in-Refused-test_frame c =
     let v = rw c.in-Refused-test_frame.is at (tested (goal.at.returns-in-Refused-test_frame c).After-test_frame (length c.args.out.now)) in
     record { answer = rw v; borrowed = rw v }

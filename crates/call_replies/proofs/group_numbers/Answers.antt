@@ -1,12 +1,12 @@
 -- `call_replies::group_numbers` meets its contract: each arm knows its answer.
 
-use Rattle.call_unpacked.specs.Calls.{group_reply}
+use Rattle.call_unpacked.specs.Calls.{count_reply}
 use Rattle.call_replies.proofs.group_numbers.Goals as goal
 
 pub returns-in-Written : goal.returns-in-Written
-unfolding group_reply
+unfolding count_reply
 returns-in-Written c = rw (c.in-Written.is, c.written.ensures)
 
 pub returns-in-Refused : goal.returns-in-Refused
-unfolding group_reply
+unfolding count_reply
 returns-in-Refused c = rw (c.in-Refused.is, c.refused.ensures)

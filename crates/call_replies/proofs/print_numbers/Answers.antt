@@ -1,12 +1,12 @@
 -- `call_replies::print_numbers` meets its contract: each arm knows its answer.
 
-use Rattle.dimacs.specs.PrintCalls.{print_reply}
+use Rattle.refusals.specs.Slices.{count_reply}
 use Rattle.call_replies.proofs.print_numbers.Goals as goal
 
 pub returns-in-Written : goal.returns-in-Written
-unfolding print_reply
+unfolding count_reply
 returns-in-Written c = rw (c.in-Written.is, c.written.ensures)
 
 pub returns-in-Refused : goal.returns-in-Refused
-unfolding print_reply
+unfolding count_reply
 returns-in-Refused c = rw (c.in-Refused.is, c.refused.ensures)

@@ -2,9 +2,9 @@
 
 use mathlib.Core.List.{[]}
 use mathlib.Core.Path.{◌≡◌, sym, ◌∙◌}
+use Rattle.refusals.specs.Verdict.{Passed, refuse}
 use Rattle.refusals.specs.Tests.{◌then◌}
 use Rattle.refusals.specs.declared.Refusal.TheVariants.{NoSuchGroup}
-use Rattle.refusals.specs.declared.Verdict.TheVariants.{Passed, Refused}
 use Rattle.netlist.specs.NetOf.{net_of}
 use Rattle.netlist.proofs.NetOf.{sizes-lists}
 use Rattle.netlist_tests.specs.Record.{record_verdict}
@@ -38,7 +38,7 @@ pub returns-then-not-is_in_depth : goal.returns-then-not-is_in_depth
 unfolding test_group net_of
 returns-then-not-is_in_depth c =
     let there = rw c.port_count.ensures at c.is_in_depth.ensures in
-    let e : test_group (net_of c.args.net c.args.latches.now c.args.gates.now) c.args.depth c.args.group ≡ Refused NoSuchGroup 0 = rw (sym there ∙ c.if-not-is_in_depth.true) in
+    let e : test_group (net_of c.args.net c.args.latches.now c.args.gates.now) c.args.depth c.args.group ≡ refuse NoSuchGroup 0 = rw (sym there ∙ c.if-not-is_in_depth.true) in
     sym e ∙ asked (goal.at.returns-then-not-is_in_depth c).In_default
 
 pub returns : goal.returns

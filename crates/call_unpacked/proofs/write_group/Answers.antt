@@ -4,12 +4,12 @@ use mathlib.Core.Path.{sym, ◌∙◌}
 use lib.ListN.{length}
 use Rattle.refusals.specs.Tests.{◌then◌}
 use Rattle.refusals.specs.Slices.{with_count, contents_after}
-use Rattle.call_unpacked.specs.Calls.{group_reply, group_sent, group_leaves}
+use Rattle.call_unpacked.specs.Calls.{count_reply, group_sent, group_leaves}
 use Rattle.call_unpacked.proofs.Calls.{group-shown, group-tested}
 use Rattle.call_unpacked.proofs.write_group.Goals as goal
 
 pub returns-in-Refused : goal.returns-in-Refused
-unfolding group_reply group_sent group_leaves with_count contents_after ◌then◌
+unfolding count_reply group_sent group_leaves with_count contents_after ◌then◌
 returns-in-Refused c =
     let v = group-tested _ _ _ _ _ (length c.args.out.now) (sym c.in-Refused.is ∙ c.test_group.ensures) in
     record { answer = rw v; borrowed = rw v }

@@ -10,7 +10,7 @@ use Rattle.refusals.specs.Slices.{with_count, contents_after}
 use Rattle.refusals.proofs.Slices.{room-enough, room-short}
 use Rattle.netlist.specs.NetOf.{net_of}
 use Rattle.group_counts.proofs.Counted.{wrote-front, numbers-most}
-use Rattle.call_unpacked.specs.Calls.{group_reply}
+use Rattle.call_unpacked.specs.Calls.{count_reply}
 use borrow.Author.Rules.{rules}
 use Rattle.call_unpacked.proofs.write_tested.Goals as goal
 use Rattle.call_unpacked.proofs.write_tested.Goals.{After-put_group-count}
@@ -22,7 +22,7 @@ put_group-requires c =
     (ok.0, ok.1, ok.2, omega (arith, most, c.if-out-ge5992.true))
 
 pub returns-then-out-ge5992 : goal.returns-then-out-ge5992
-unfolding group_reply with_count contents_after
+unfolding count_reply with_count contents_after
 returns-then-out-ge5992 c =
     let most = numbers-most _ _ c.args.group c.requires.0 c.requires.1 c.requires.2 in
     let w = c.put_group.ensures.0 in
@@ -43,7 +43,7 @@ within c =
     search rules
 
 pub returns-then-out-count : goal.returns-then-out-count
-unfolding group_reply with_count contents_after
+unfolding count_reply with_count contents_after
 returns-then-out-count c =
     let w = c.put_group-count.ensures.0 in
     let v = room-short (length (numbers_of (net_of c.args.net c.args.latches.now c.args.gates.now) c.args.depth c.args.group)) (length c.args.out.now) (omega (arith, c.if-out-count.true, w.counted)) in
@@ -61,7 +61,7 @@ copy_numbers-requires c =
     omega (arith, c.if-out-count.false)
 
 pub returns : goal.returns
-unfolding group_reply with_count contents_after
+unfolding count_reply with_count contents_after
 returns c =
     let w = c.put_group-count.ensures.0 in
     let x = rw (wrote-front w) at c.copy_numbers.ensures in

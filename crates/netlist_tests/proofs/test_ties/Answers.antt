@@ -4,6 +4,7 @@ use mathlib.Core.Path.{◌≡◌, sym}
 use native.Mathlib.Nat.{add-zero}
 use native.Mathlib.Omega.{arith}
 use borrow.Author.Tests.{lt-ltb, le-ltb}
+use Rattle.std.proofs.lemmas.Result.{err_from_is_err_and}
 use Rattle.refusals.specs.Tests.{◌then◌}
 use Rattle.model.specs.Netlist.{port}
 use Rattle.netlist.specs.NetOf.{net_of, alone}
@@ -11,7 +12,6 @@ use Rattle.netlist.specs.Places.{address_line}
 use Rattle.netlist_tests.specs.OnePort.{test_address}
 use Rattle.netlist_tests.proofs.Ties.{ties-by-ports}
 use Rattle.netlist_tests.proofs.test_ties.Goals as goal
-use Rattle.netlist_tests.proofs.test_ties.Goals.{After-test_address-ties}
 
 pub overflow_add-line : goal.overflow_add-line
 unfolding net_of
@@ -21,28 +21,15 @@ pub overflow_add-line-2 : goal.overflow_add-line-2
 unfolding net_of
 overflow_add-line-2 c = omega (arith, c.requires)
 
-pub test_address-ties-requires : goal.test_address-ties-requires
+pub test_address-requires : goal.test_address-requires
 unfolding net_of
-test_address-ties-requires c = (omega (arith, c.requires), omega (arith, c.requires))
+test_address-requires c = (omega (arith, c.requires), omega (arith, c.requires))
 
--- what the test of the first port's codes says
-tested : (c : After-test_address-ties)
-    → let d = alone c.args.net in
-    test_address (port d 1).address d.m (address_line d 0) ≡ c.test_address-ties.result
-unfolding net_of
-tested c = rw add-zero (sym c.test_address-ties.ensures)
-
-pub enum_told-1 : goal.enum_told-1
-enum_told-1 c = c.in-Refused.in-Refused-own.keys1
-
-pub returns-in-Refused : goal.returns-in-Refused
+pub returns-in_err-test_address : goal.returns-in_err-test_address
 unfolding net_of ◌then◌
-returns-in-Refused c =
-    let refused = c.in-Refused.is in
-    rw (ties-by-ports (alone c.args.net), tested (goal.at.returns-in-Refused c).After-test_address-ties, refused)
-
-pub enum_told-in_default : goal.enum_told-in_default
-enum_told-in_default c = c.in_default.in_default-own.keys2
+returns-in_err-test_address c =
+    let p = err_from_is_err_and c.from_residual.result c.from_residual.ensures.1 in
+    rw (p.1, p.2, ties-by-ports (alone c.args.net), add-zero, sym c.in_err-test_address.ensures)
 
 pub overflow_add-line-then-net-gt0 : goal.overflow_add-line-then-net-gt0
 unfolding net_of
@@ -52,9 +39,9 @@ pub overflow_add-line-then-net-gt0-2 : goal.overflow_add-line-then-net-gt0-2
 unfolding net_of
 overflow_add-line-then-net-gt0-2 c = omega (arith, c.requires)
 
-pub test_address-requires : goal.test_address-requires
+pub test_address-requires-then-net-gt0 : goal.test_address-requires-then-net-gt0
 unfolding net_of
-test_address-requires c =
+test_address-requires-then-net-gt0 c =
     let fit = c.requires in
     (omega (arith, fit), omega (arith, fit))
 
@@ -63,18 +50,18 @@ unfolding net_of ◌then◌
 returns-then-net-gt0 c =
     rw (
       ties-by-ports (alone c.args.net),
-      tested (goal.at.returns-then-net-gt0 c).After-test_address-ties,
-      c.in_default.is,
+      add-zero,
+      sym c.in_ok-test_address.ensures,
       lt-ltb _ _ c.if-net-gt0.true,
     )
-    (rw add-zero c.test_address.ensures)
+    (rw add-zero c.test_address-then-net-gt0.ensures)
 
 pub returns : goal.returns
 unfolding net_of ◌then◌
 returns c =
     rw (
       ties-by-ports (alone c.args.net),
-      tested (goal.at.returns c).After-test_address-ties,
-      c.in_default.is,
+      add-zero,
+      sym c.in_ok-test_address.ensures,
       le-ltb _ _ c.if-net-gt0.false,
     )

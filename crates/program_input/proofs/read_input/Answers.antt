@@ -2,7 +2,7 @@
 
 use mathlib.Core.Path.{◌≡◌, sym, ◌∙◌}
 use native.Mathlib.Omega.{arith}
-use Rattle.refusals.specs.declared.Verdict.TheVariants.{Passed}
+use Rattle.refusals.specs.Verdict.{Passed}
 use Rattle.refusals.proofs.Table.{reply-tells}
 use Rattle.sheet_lines.specs.Depth.{depth_verdict}
 use Rattle.sheet_lines.proofs.Depth.{passed-long}

@@ -4,15 +4,15 @@ use mathlib.Core.Path.{◌≡◌, sym, ◌∙◌}
 use mathlib.Core.List.{[]}
 use native.Mathlib.Omega.{arith}
 use lib.ListN.{length}
+use Rattle.refusals.specs.Verdict.{Passed}
 use Rattle.model.specs.Acceptance.{SizesFit}
 use Rattle.model.proofs.Agree.{accepted-same}
 use Rattle.refusals.specs.Tests.{◌then◌}
 use Rattle.refusals.specs.Slices.{with_count, contents_after}
-use Rattle.refusals.specs.declared.Verdict.TheVariants.{Passed}
 use Rattle.refusals.proofs.Slices.{room-enough, room-short}
 use Rattle.netlist.specs.NetOf.{net_of, alone}
 use Rattle.netlist.proofs.NetOf.{sizes-lists}
-use Rattle.dimacs.specs.PrintCalls.{print_reply}
+use Rattle.refusals.specs.Slices.{count_reply}
 use Rattle.sheet_text.proofs.SheetText.{length-sheet_text}
 use Rattle.sheet_one_port.specs.OnePortCall.{one_port_text, one_port_tests, one_port_verdict, one_port_sent, one_port_leaves}
 use Rattle.sheet_one_port.proofs.OnePortCall.{text_same, accepted-text, one-port-theorem}
@@ -20,7 +20,7 @@ use Rattle.sheet_one_port.proofs.convert.Goals as goal
 use Rattle.sheet_one_port.proofs.convert.Goals.{In_default}
 
 pub returns-in-Refused : goal.returns-in-Refused
-unfolding print_reply one_port_verdict one_port_sent one_port_leaves with_count contents_after ◌then◌
+unfolding count_reply one_port_verdict one_port_sent one_port_leaves with_count contents_after ◌then◌
 returns-in-Refused c =
     let v = sym c.read_one_port-sheet.ensures.verdict-is ∙ c.in-Refused.is in
     record { answer = rw v; borrowed = rw v; converted = one-port-theorem }
@@ -37,7 +37,7 @@ pub control_line-requires : goal.control_line-requires
 control_line-requires c = sizes (goal.at.control_line-requires c).In_default
 
 pub returns-then-out-control_line : goal.returns-then-out-control_line
-unfolding net_of print_reply one_port_verdict one_port_sent one_port_leaves with_count contents_after ◌then◌
+unfolding net_of count_reply one_port_verdict one_port_sent one_port_leaves with_count contents_after ◌then◌
 returns-then-out-control_line c =
     let v = passed (goal.at.returns-then-out-control_line c).In_default in
     let agree = c.read_one_port-sheet.ensures.agrees v in
@@ -49,7 +49,7 @@ pub put_sheet-requires : goal.put_sheet-requires
 put_sheet-requires c = (sizes (goal.at.put_sheet-requires c).In_default, omega (arith, c.if-out-control_line.false, c.control_line.ensures))
 
 pub returns : goal.returns
-unfolding net_of print_reply one_port_verdict one_port_sent one_port_leaves with_count contents_after ◌then◌
+unfolding net_of count_reply one_port_verdict one_port_sent one_port_leaves with_count contents_after ◌then◌
 returns c =
     let v = passed (goal.at.returns c).In_default in
     let agree = c.read_one_port-sheet.ensures.agrees v in

@@ -2,8 +2,8 @@
 
 use mathlib.Core.Path.{◌≡◌, refl, sym, ◌∙◌, subst}
 use mathlib.Core.List.{[]}
+use Rattle.refusals.specs.Verdict.{Passed}
 use Rattle.model.specs.Acceptance.{SizesFit, WithinLimits}
-use Rattle.refusals.specs.declared.Verdict.TheVariants.{Passed}
 use Rattle.netlist.specs.NetOf.{alone}
 use Rattle.netlist.proofs.NetOf.{sizes-lists}
 use Rattle.sheet_steps.proofs.Records.{verdict-is, holds}

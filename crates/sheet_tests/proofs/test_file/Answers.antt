@@ -3,8 +3,8 @@
 use mathlib.Core.Path.{◌≡◌, refl, sym, ◌∙◌}
 use mathlib.Core.Bool.{false}
 use native.Mathlib.Omega.{arith}
+use Rattle.refusals.specs.Verdict.{Passed}
 use Rattle.refusals.specs.Tests.{in_order}
-use Rattle.refusals.specs.declared.Verdict.TheVariants.{Passed}
 use Rattle.sheet_steps.proofs.Records.{verdict-is, holds, outcome-refused, outcome-kept, outcome-same}
 use Rattle.sheet_parse.specs.Files.{line_count, net_in}
 use Rattle.sheet_parse.specs.FileTests.{ragged, test_line_in}

@@ -4,16 +4,16 @@ use mathlib.Core.Path.{◌≡◌, sym, ◌∙◌}
 use mathlib.Core.List.{[]}
 use native.Mathlib.Omega.{arith}
 use lib.ListN.{length}
+use Rattle.refusals.specs.Verdict.{Passed}
 use Rattle.model.specs.Acceptance.{Accepted}
 use Rattle.refusals.specs.Tests.{◌then◌}
 use Rattle.refusals.specs.Slices.{with_count, contents_after}
-use Rattle.refusals.specs.declared.Verdict.TheVariants.{Passed}
 use Rattle.refusals.proofs.Slices.{room-enough, room-short}
 use Rattle.netlist.specs.NetOf.{net_of}
 use Rattle.netlist.proofs.NetOf.{sizes-lists}
 use Rattle.netlist_tests.specs.Record.{record_verdict}
 use Rattle.netlist_tests.proofs.Acceptance.{passes-accepted}
-use Rattle.dimacs.specs.PrintCalls.{print_reply}
+use Rattle.refusals.specs.Slices.{count_reply}
 use Rattle.sheet_text.specs.SheetText.{sheet_text}
 use Rattle.sheet_writer.specs.WriteCall.{write_sheet_verdict, write_sent, write_leaves}
 use Rattle.sheet_text.proofs.SheetText.{length-sheet_text}
@@ -22,7 +22,7 @@ use Rattle.sheet_writer.proofs.write_sheet.Goals as goal
 use Rattle.sheet_writer.proofs.write_sheet.Goals.{In_default}
 
 pub returns-in-Refused : goal.returns-in-Refused
-unfolding print_reply write_sheet_verdict write_sent write_leaves with_count contents_after ◌then◌
+unfolding count_reply write_sheet_verdict write_sent write_leaves with_count contents_after ◌then◌
 returns-in-Refused c =
     let v = sym c.test_record.ensures ∙ c.in-Refused.is in
     record { answer = rw v; borrowed = rw v; written = sheet-written }
@@ -39,7 +39,7 @@ pub control_line-requires : goal.control_line-requires
 control_line-requires c = sizes-lists _ _ _ [] [] (accepted c).limits.sizes
 
 pub returns-then-out-control_line : goal.returns-then-out-control_line
-unfolding net_of print_reply write_sheet_verdict write_sent write_leaves with_count contents_after ◌then◌
+unfolding net_of count_reply write_sheet_verdict write_sent write_leaves with_count contents_after ◌then◌
 returns-then-out-control_line c =
     let v = passed (goal.at.returns-then-out-control_line c).In_default in
     let short = room-short (length (sheet_text (net_of c.args.net c.args.latches.now c.args.gates.now))) (length c.args.out.now) (omega (arith, length-sheet_text _ (accepted (goal.at.returns-then-out-control_line c).In_default).limits, c.if-out-control_line.true, c.control_line.ensures)) in
@@ -50,7 +50,7 @@ put_sheet-requires c =
     (sizes-lists _ _ _ [] [] (accepted (goal.at.put_sheet-requires c).In_default).limits.sizes, omega (arith, c.if-out-control_line.false, c.control_line.ensures))
 
 pub returns : goal.returns
-unfolding net_of print_reply write_sheet_verdict write_sent write_leaves with_count contents_after ◌then◌
+unfolding net_of count_reply write_sheet_verdict write_sent write_leaves with_count contents_after ◌then◌
 returns c =
     let v = passed (goal.at.returns c).In_default in
     let w = c.put_sheet.ensures in
