@@ -6,6 +6,7 @@ use mathlib.Core.List.{List}
 use native.Mathlib.Omega.{arith}
 use lib.ListN.{length, take}
 use lib.Seq.{take-suc, take_all}
+use Rattle.std.specs.Prelude.{Ok, Err}
 use Rattle.refusals.specs.Verdict.{Verdict, Passed, refuse}
 use Rattle.refusals.specs.declared.Refusal.{Refusal}
 use Rattle.model.specs.Netlist as M
@@ -88,5 +89,5 @@ module _ {v : Verdict} (latches gates : List ℕ) (c : M.Netlist) where
 -- the same verdict, and where nothing is refused the same netlist
 pub outcome-same : {sheet : SheetAnswer} {latches gates : List ℕ} {v : Verdict} {c d : M.Netlist} (w : Verdict) → v ≡ w → (w ≡ Passed → c ≡ d)
     → Outcome sheet latches gates v c → Outcome sheet latches gates w d
-outcome-same {latches = latches} {gates = gates} {d = d} Passed e same o = rw (← same refl, ← e) o
-outcome-same {latches = latches} {gates = gates} {d = d} (refuse r p) e same o = outcome-kept latches gates d o (verdict-is o ∙ e) refl
+outcome-same {latches = latches} {gates = gates} {d = d} (Ok _) e same o = rw (← same refl, ← e) o
+outcome-same {latches = latches} {gates = gates} {d = d} (Err f) e same o = outcome-kept latches gates d o (verdict-is o ∙ e) refl

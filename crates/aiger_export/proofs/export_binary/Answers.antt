@@ -19,10 +19,10 @@ use Rattle.aiger_export.proofs.Exported.{exported}
 use Rattle.aiger_export.proofs.export_binary.Goals as goal
 use Rattle.aiger_export.proofs.export_binary.Goals.{After-put_file-count, In_default}
 
-pub returns-in-Refused : goal.returns-in-Refused
+pub returns-in-Err : goal.returns-in-Err
 unfolding count_reply export_verdict export_sent export_leaves with_count contents_after ◌then◌
-returns-in-Refused c =
-    let v = sym c.test_export.ensures ∙ c.in-Refused.is in
+returns-in-Err c =
+    let v = sym c.test_export.ensures ∙ c.in-Err.is in
     record { answer = rw v; borrowed = rw v; exported = exported }
 
 -- the record passes its tests

@@ -13,10 +13,10 @@ use Rattle.aiger_export.specs.ExportCall.{test_resets, test_export}
 use Rattle.aiger_export.proofs.test_export.Goals as goal
 use Rattle.aiger_export.proofs.test_export.Goals.{In_default}
 
-pub returns-in-Refused : goal.returns-in-Refused
+pub returns-in-Err : goal.returns-in-Err
 unfolding test_export ◌then◌
-returns-in-Refused c =
-    let refused = c.in-Refused.is in
+returns-in-Err c =
+    let refused = c.in-Err.is in
     rw (refused, sym c.test_record-record.ensures ∙ refused)
 
 -- the record passes its own tests, so its sizes are within their limits

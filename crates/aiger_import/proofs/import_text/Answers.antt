@@ -55,23 +55,23 @@ port-judged c text sized =
     port-tested c.args.text.now c.args.m c.args.n (imported_word c.args.word c.args.unknown) c.args.unknown c.args.second_port c.read_header-header.result.counts c.read_header-header.ensures.counts-are c.text_sizes-sizes.result (rw c.given_word-given.ensures at c.text_sizes-sizes.ensures)
     text sized _ _ _ c.fill-net.ensures c.test_ports-port.ensures
 
-pub returns-in-Refused : goal.returns-in-Refused
-returns-in-Refused c =
+pub returns-in-Err : goal.returns-in-Err
+returns-in-Err c =
     rw c.refused.ensures
     (outcome-refused _ _ (aag_net c.args.text.now c.args.m c.args.n (imported_word c.args.word c.args.unknown) c.args.unknown c.args.second_port)
     (text-refused c.args.text.now c.args.m c.args.n (imported_word c.args.word c.args.unknown) c.args.unknown c.args.second_port c.args.latch_room c.args.gate_room
-    (sym c.test_text-tested.ensures ∙ c.in-Refused.is)))
+    (sym c.test_text-tested.ensures ∙ c.in-Err.is)))
 
 pub text_sizes-sizes-requires : goal.text_sizes-sizes-requires
 text_sizes-sizes-requires c =
     rw c.read_header-header.ensures.counts-are (fits-interface c.args.text.now c.args.m c.args.n c.args.second_port (text-passed (goal.at.text_sizes-sizes-requires c).In_default)).inputs-enough
 
-pub returns-in-Refused-sized : goal.returns-in-Refused-sized
-returns-in-Refused-sized c =
-    rw c.refused-in-Refused-sized.ensures
+pub returns-in-Err-sized : goal.returns-in-Err-sized
+returns-in-Err-sized c =
+    rw c.refused-in-Err-sized.ensures
     (outcome-refused _ _ (aag_net c.args.text.now c.args.m c.args.n (imported_word c.args.word c.args.unknown) c.args.unknown c.args.second_port)
     (sizes-refused c.args.text.now c.args.m c.args.n (imported_word c.args.word c.args.unknown) c.args.unknown c.args.second_port c.args.latch_room c.args.gate_room
-    (text-passed (goal.at.returns-in-Refused-sized c).In_default) (sizes-judged (goal.at.returns-in-Refused-sized c).After-test_sizes-sized ∙ c.in-Refused-sized.is)))
+    (text-passed (goal.at.returns-in-Err-sized c).In_default) (sizes-judged (goal.at.returns-in-Err-sized c).After-test_sizes-sized ∙ c.in-Err-sized.is)))
 
 pub fill-net-requires : goal.fill-net-requires
 fill-net-requires c = (
@@ -87,12 +87,12 @@ test_ports-port-requires c =
     limits c.args.text.now c.args.m c.args.n (imported_word c.args.word c.args.unknown) c.args.unknown c.args.second_port c.read_header-header.result.counts c.read_header-header.ensures.counts-are c.text_sizes-sizes.result (sizes-are (goal.at.test_ports-port-requires c).After-text_sizes-sizes)
     (text-passed (goal.at.test_ports-port-requires c).In_default) (sizes-passed (goal.at.test_ports-port-requires c).In_default-sized) _ _ _ c.fill-net.ensures
 
-pub returns-in-Refused-port : goal.returns-in-Refused-port
-returns-in-Refused-port c =
-    rw c.refused-in-Refused-port.ensures
+pub returns-in-Err-port : goal.returns-in-Err-port
+returns-in-Err-port c =
+    rw c.refused-in-Err-port.ensures
     (outcome-refused _ _ (aag_net c.args.text.now c.args.m c.args.n (imported_word c.args.word c.args.unknown) c.args.unknown c.args.second_port)
     (port-refused c.args.text.now c.args.m c.args.n (imported_word c.args.word c.args.unknown) c.args.unknown c.args.second_port c.args.latch_room c.args.gate_room
-    (text-passed (goal.at.returns-in-Refused-port c).In_default) (sizes-passed (goal.at.returns-in-Refused-port c).In_default-sized) (port-judged (goal.at.returns-in-Refused-port c).After-test_ports-port (text-passed (goal.at.returns-in-Refused-port c).In_default) (sizes-passed (goal.at.returns-in-Refused-port c).In_default-sized) ∙ c.in-Refused-port.is)))
+    (text-passed (goal.at.returns-in-Err-port c).In_default) (sizes-passed (goal.at.returns-in-Err-port c).In_default-sized) (port-judged (goal.at.returns-in-Err-port c).After-test_ports-port (text-passed (goal.at.returns-in-Err-port c).In_default) (sizes-passed (goal.at.returns-in-Err-port c).In_default-sized) ∙ c.in-Err-port.is)))
 
 pub returns-then-latch_room-net : goal.returns-then-latch_room-net
 returns-then-latch_room-net c =

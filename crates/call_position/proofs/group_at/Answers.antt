@@ -16,10 +16,10 @@ use Rattle.call_position.proofs.GroupsAt.{group-at-tested}
 use Rattle.call_position.proofs.group_at.Goals as goal
 use Rattle.call_position.proofs.group_at.Goals.{After-test_frame}
 
-pub returns-in-Refused : goal.returns-in-Refused
+pub returns-in-Err : goal.returns-in-Err
 unfolding count_reply group_at_sent group_at_leaves with_count contents_after ◌then◌
-returns-in-Refused c =
-    let v = group-at-tested _ _ _ c.args.position c.args.group (length c.args.out.now) (sym c.in-Refused.is ∙ c.test_group.ensures) refl in
+returns-in-Err c =
+    let v = group-at-tested _ _ _ c.args.position c.args.group (length c.args.out.now) (sym c.in-Err.is ∙ c.test_group.ensures) refl in
     record { answer = rw v; borrowed = rw v }
 
 pub test_frame-requires : goal.test_frame-requires
@@ -37,10 +37,10 @@ tested c room =
     group-at-tested _ _ _ c.args.position c.args.group room (sym c.in_default.is ∙ c.test_group.ensures)
     (c.test_frame.ensures ∙ test_frame-lists c.args.net c.args.latches.now c.args.gates.now c.args.position c.args.position.frame)
 
-pub returns-in-Refused-test_frame : goal.returns-in-Refused-test_frame
+pub returns-in-Err-test_frame : goal.returns-in-Err-test_frame
 unfolding count_reply group_at_sent group_at_leaves with_count contents_after ◌then◌
-returns-in-Refused-test_frame c =
-    let v = rw c.in-Refused-test_frame.is at (tested (goal.at.returns-in-Refused-test_frame c).After-test_frame (length c.args.out.now)) in
+returns-in-Err-test_frame c =
+    let v = rw c.in-Err-test_frame.is at (tested (goal.at.returns-in-Err-test_frame c).After-test_frame (length c.args.out.now)) in
     record { answer = rw v; borrowed = rw v }
 
 pub write_tested-requires : goal.write_tested-requires

@@ -6,10 +6,10 @@ use Rattle.call_position.specs.Literals.{with_literal, literal_sent}
 use Rattle.call_position.proofs.Literals.{literal-shown, sent-negated}
 use Rattle.call_position.proofs.literal_at.Goals as goal
 
-pub returns-in-Refused : goal.returns-in-Refused
+pub returns-in-Err : goal.returns-in-Err
 unfolding literal_sent with_literal
-returns-in-Refused c =
-    let verdict = sym c.test_literal.ensures ∙ c.in-Refused.is in
+returns-in-Err c =
+    let verdict = sym c.test_literal.ensures ∙ c.in-Err.is in
     sent-negated _ _ _ (rw (c.no_literal.ensures, verdict))
 
 pub in_frame-requires : goal.in_frame-requires

@@ -13,10 +13,10 @@ use Rattle.call_position.proofs.Moves.{test_move-lists, moved_to-lists, move-tes
 use Rattle.call_position.proofs.move_position.Goals as goal
 use Rattle.call_position.proofs.move_position.Goals.{After-test_move, In_default}
 
-pub returns-in-Refused : goal.returns-in-Refused
+pub returns-in-Err : goal.returns-in-Err
 unfolding move_sent with_position ◌then◌
-returns-in-Refused c =
-    let v = move-tested _ _ _ c.args.position (move_of c.args.way) (sym c.in-Refused.is ∙ c.test_depth.ensures) refl in
+returns-in-Err c =
+    let v = move-tested _ _ _ c.args.position (move_of c.args.way) (sym c.in-Err.is ∙ c.test_depth.ensures) refl in
     rw (c.refused_move.ensures, c.move_of-way.ensures, v)
 
 -- what the tests of the record and of the depth have shown
@@ -39,11 +39,11 @@ tested c =
 pub test_move-requires : goal.test_move-requires
 test_move-requires c = shown c
 
-pub returns-in-Refused-test_move : goal.returns-in-Refused-test_move
+pub returns-in-Err-test_move : goal.returns-in-Err-test_move
 unfolding move_sent with_position
-returns-in-Refused-test_move c =
-    let e = tested (goal.at.returns-in-Refused-test_move c).After-test_move in
-    rw (c.refused_move-in-Refused-test_move.ensures, c.move_of-way.ensures, e ∙ c.in-Refused-test_move.is)
+returns-in-Err-test_move c =
+    let e = tested (goal.at.returns-in-Err-test_move c).After-test_move in
+    rw (c.refused_move-in-Err-test_move.ensures, c.move_of-way.ensures, e ∙ c.in-Err-test_move.is)
 
 pub moved-requires : goal.moved-requires
 moved-requires c = ((shown (goal.at.moved-requires c).In_default).0, (shown (goal.at.moved-requires c).In_default).1, sym c.test_move.ensures ∙ c.in_default-test_move.is)

@@ -9,19 +9,19 @@ use Rattle.call_position.proofs.Literals.{numbering-shown}
 use Rattle.call_position.proofs.test_literal.Goals as goal
 use Rattle.call_position.proofs.test_literal.Goals.{After-is_above}
 
-pub returns-in-Refused : goal.returns-in-Refused
+pub returns-in-Err : goal.returns-in-Err
 unfolding literal_verdict ◌then◌
-returns-in-Refused c =
-    let refused = c.in-Refused.is in
+returns-in-Err c =
+    let refused = c.in-Err.is in
     rw (refused, sym c.test_numbering-asked.ensures ∙ refused)
 
 pub test_frame-place-requires : goal.test_frame-place-requires
 test_frame-place-requires c = numbering-shown _ _ (sym c.test_numbering-asked.ensures ∙ c.in_default.is)
 
-pub returns-in-Refused-place : goal.returns-in-Refused-place
+pub returns-in-Err-place : goal.returns-in-Err-place
 unfolding literal_verdict ◌then◌
-returns-in-Refused-place c =
-    let refused = c.in-Refused-place.is in
+returns-in-Err-place c =
+    let refused = c.in-Err-place.is in
     rw (refused, sym c.test_numbering-asked.ensures ∙ c.in_default.is, sym c.test_frame-place.ensures ∙ refused)
 
 pub last_wire-requires : goal.last_wire-requires

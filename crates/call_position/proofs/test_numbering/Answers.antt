@@ -7,10 +7,10 @@ use Rattle.call_unpacked.specs.Calls.{test_depth}
 use Rattle.call_position.specs.Literals.{numbering_verdict}
 use Rattle.call_position.proofs.test_numbering.Goals as goal
 
-pub returns-in-Refused : goal.returns-in-Refused
+pub returns-in-Err : goal.returns-in-Err
 unfolding numbering_verdict ◌then◌
-returns-in-Refused c =
-    let refused = c.in-Refused.is in
+returns-in-Err c =
+    let refused = c.in-Err.is in
     rw (refused, sym c.test_sizes-sizes.ensures ∙ refused)
 
 pub returns-then-depth-gt255 : goal.returns-then-depth-gt255

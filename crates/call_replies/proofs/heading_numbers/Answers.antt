@@ -7,6 +7,6 @@ pub returns-in-Heading : goal.returns-in-Heading
 unfolding heading_reply with_heading
 returns-in-Heading c = rw c.in-Heading.is
 
-pub returns-in-Refused : goal.returns-in-Refused
+pub returns-in-Err : goal.returns-in-Err
 unfolding heading_reply with_heading
-returns-in-Refused c = rw (c.in-Refused.is, c.number.ensures)
+returns-in-Err c = rw (c.in-Err.is, c.number.ensures)

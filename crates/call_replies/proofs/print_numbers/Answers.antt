@@ -7,6 +7,6 @@ pub returns-in-Written : goal.returns-in-Written
 unfolding count_reply
 returns-in-Written c = rw (c.in-Written.is, c.written.ensures)
 
-pub returns-in-Refused : goal.returns-in-Refused
+pub returns-in-Err : goal.returns-in-Err
 unfolding count_reply
-returns-in-Refused c = rw (c.in-Refused.is, c.refused.ensures)
+returns-in-Err c = rw (c.in-Err.is, c.refused.ensures)

@@ -6,10 +6,10 @@ use Rattle.call_source.specs.Sources.{source_sent}
 use Rattle.call_source.proofs.Sources.{source-shown}
 use Rattle.call_source.proofs.source_literal.Goals as goal
 
-pub returns-in-Refused : goal.returns-in-Refused
+pub returns-in-Err : goal.returns-in-Err
 unfolding source_sent with_literal
-returns-in-Refused c =
-    rw (c.no_literal.ensures, sym c.test_source.ensures ∙ c.in-Refused.is)
+returns-in-Err c =
+    rw (c.no_literal.ensures, sym c.test_source.ensures ∙ c.in-Err.is)
 
 pub source_in-requires : goal.source_in-requires
 source_in-requires c = source-shown _ _ _ (sym c.test_source.ensures ∙ c.in_default.is)

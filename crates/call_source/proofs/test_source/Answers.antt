@@ -19,10 +19,10 @@ use Rattle.call_source.proofs.Sources.{port-there}
 use Rattle.call_source.proofs.test_source.Goals as goal
 use Rattle.call_source.proofs.test_source.Goals.{After-has_source, After-is_above, Else-not-has_source, In_default}
 
-pub returns-in-Refused : goal.returns-in-Refused
+pub returns-in-Err : goal.returns-in-Err
 unfolding source_verdict ◌then◌
-returns-in-Refused c =
-    let refused = c.in-Refused.is in
+returns-in-Err c =
+    let refused = c.in-Err.is in
     rw (refused, sym c.test_numbering-asked.ensures ∙ refused)
 
 -- the sizes fit

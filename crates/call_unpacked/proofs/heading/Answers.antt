@@ -13,9 +13,9 @@ use Rattle.call_unpacked.proofs.Calls.{depth-shown}
 use Rattle.call_unpacked.proofs.heading.Goals as goal
 use Rattle.call_unpacked.proofs.heading.Goals.{In_default}
 
-pub returns-in-Refused : goal.returns-in-Refused
+pub returns-in-Err : goal.returns-in-Err
 unfolding heading_reply with_heading heading_sent heading_verdict
-returns-in-Refused c = rw (sym c.test_depth.ensures ∙ c.in-Refused.is)
+returns-in-Err c = rw (sym c.test_depth.ensures ∙ c.in-Err.is)
 
 -- what the tests have shown
 shown : (c : In_default) →

@@ -6,10 +6,10 @@ use Rattle.refusals.specs.Tests.{◌then◌}
 use Rattle.call_unpacked.specs.Calls.{test_depth}
 use Rattle.call_unpacked.proofs.test_depth.Goals as goal
 
-pub returns-in-Refused : goal.returns-in-Refused
+pub returns-in-Err : goal.returns-in-Err
 unfolding ◌then◌
-returns-in-Refused c =
-    let refused = c.in-Refused.is in
+returns-in-Err c =
+    let refused = c.in-Err.is in
     rw (refused, sym c.test_record-record.ensures ∙ refused)
 
 pub returns-then-depth-gt255 : goal.returns-then-depth-gt255

@@ -13,10 +13,10 @@ use Rattle.call_unpacked.proofs.Calls.{depth-shown, depth-more}
 use Rattle.call_unpacked.proofs.test_group.Goals as goal
 use Rattle.call_unpacked.proofs.test_group.Goals.{In_default}
 
-pub returns-in-Refused : goal.returns-in-Refused
+pub returns-in-Err : goal.returns-in-Err
 unfolding ◌then◌
-returns-in-Refused c =
-    let refused = c.in-Refused.is in
+returns-in-Err c =
+    let refused = c.in-Err.is in
     rw refused (sym (depth-more _ _ _ _ (test_group (net_of c.args.net c.args.latches.now c.args.gates.now) c.args.depth c.args.group) (sym refused ∙ c.test_depth-asked.ensures)))
 
 pub port_count-requires : goal.port_count-requires

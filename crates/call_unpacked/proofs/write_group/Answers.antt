@@ -8,10 +8,10 @@ use Rattle.call_unpacked.specs.Calls.{count_reply, group_sent, group_leaves}
 use Rattle.call_unpacked.proofs.Calls.{group-shown, group-tested}
 use Rattle.call_unpacked.proofs.write_group.Goals as goal
 
-pub returns-in-Refused : goal.returns-in-Refused
+pub returns-in-Err : goal.returns-in-Err
 unfolding count_reply group_sent group_leaves with_count contents_after ◌then◌
-returns-in-Refused c =
-    let v = group-tested _ _ _ _ _ (length c.args.out.now) (sym c.in-Refused.is ∙ c.test_group.ensures) in
+returns-in-Err c =
+    let v = group-tested _ _ _ _ _ (length c.args.out.now) (sym c.in-Err.is ∙ c.test_group.ensures) in
     record { answer = rw v; borrowed = rw v }
 
 pub write_tested-requires : goal.write_tested-requires

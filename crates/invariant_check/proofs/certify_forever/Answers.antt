@@ -10,10 +10,10 @@ use Rattle.refutation_depth.specs.declared.CertificateReply.{CertificateReply}
 use Rattle.invariant_check.proofs.Certificate.{refused-sent, refused-kept, taken-sent, taken-store, taken-scratch, certified-forever}
 use Rattle.invariant_check.proofs.certify_forever.Goals as goal
 
-pub returns-in-Refused : goal.returns-in-Refused
-returns-in-Refused c =
+pub returns-in-Err : goal.returns-in-Err
+returns-in-Err c =
     let read = c.read_codes-sheet.ensures in
-    let v = sym (verdict-is read) ∙ c.in-Refused.is in
+    let v = sym (verdict-is read) ∙ c.in-Err.is in
     let sent = refused-sent c.args.file.now c.args.invariant.now c.args.requests.now c.args.lemmas.now _ _ v c.args.hints.now (length c.args.store.now) (length c.args.marks.now) in
     let is = c.refused.ensures ∙ (rw (sym c.number.ensures) at sent) in record {
       answer = is;

@@ -7,10 +7,10 @@ use Rattle.netlist.specs.NetOf.{net_of}
 use Rattle.program_input.specs.Input.{text_or_refusal}
 use Rattle.program_export.proofs.write_export.Goals as goal
 
-pub returns-in-Refused : goal.returns-in-Refused
+pub returns-in-Err : goal.returns-in-Err
 unfolding text_or_refusal
-returns-in-Refused c =
-    let v = sym c.test_export-tested.ensures ∙ c.in-Refused.is in
+returns-in-Err c =
+    let v = sym c.test_export-tested.ensures ∙ c.in-Err.is in
     let w = c.write_refused.ensures in
     (rw v w.0, omega (arith, w.1))
 

@@ -7,9 +7,9 @@ use Rattle.aiger_export.proofs.Exported.{exported}
 use Rattle.program_export.proofs.Printed.{output-refused, output-tested, only-due}
 use Rattle.program_export.proofs.write_output.Goals as goal
 
-pub returns-in-Refused : goal.returns-in-Refused
-returns-in-Refused c =
-    let v = sym (verdict-is c.read_codes-sheet.ensures) ∙ c.in-Refused.is in
+pub returns-in-Err : goal.returns-in-Err
+returns-in-Err c =
+    let v = sym (verdict-is c.read_codes-sheet.ensures) ∙ c.in-Err.is in
     let w = c.write_refused.ensures in
     record { text = rw (output-refused c.args.file.now v) w.0; most = omega (arith, w.1); exported = exported; refusals = only-due }
 

@@ -21,9 +21,9 @@ use Rattle.program_import.proofs.write_import.Goals.{In_default}
 pub write_refused-requires : goal.write_refused-requires
 write_refused-requires c = omega (arith, c.requires)
 
-pub returns-in-Refused : goal.returns-in-Refused
-returns-in-Refused c =
-    let v = sym (verdict-is c.import_text-sheet.ensures) ∙ c.in-Refused.is in
+pub returns-in-Err : goal.returns-in-Err
+returns-in-Err c =
+    let v = sym (verdict-is c.import_text-sheet.ensures) ∙ c.in-Err.is in
     let w = rw c.number.ensures at c.write_refused.ensures in
     record { text = rw (printed-refused c.args.more c.args.text.now c.args.m c.args.n c.args.word c.args.unknown c.args.second _ _ v) w.text; most = omega (arith, w.most) }
 

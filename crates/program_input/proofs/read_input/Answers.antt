@@ -21,12 +21,12 @@ told c = reply-tells c.read_depth-line.result.verdict (depth_verdict c.args.inpu
 depth-passed : (c : In_default) → depth_verdict c.args.input.now ≡ Passed
 depth-passed c = sym (reply-tells c.read_depth-line.result.verdict (depth_verdict c.args.input.now) c.read_depth-line.ensures.reply) ∙ c.in_default.is
 
-pub returns-in-Refused : goal.returns-in-Refused
+pub returns-in-Err : goal.returns-in-Err
 unfolding input_answer record_beside
-returns-in-Refused c =
+returns-in-Err c =
     let s = c.args.input.now in
-    let refused = c.in-Refused.is in
-    let decided = depth-decides s (sym (told (goal.at.returns-in-Refused c).After-read_depth-line) ∙ refused) in
+    let refused = c.in-Err.is in
+    let decided = depth-decides s (sym (told (goal.at.returns-in-Err c).After-read_depth-line) ∙ refused) in
     let is : c.answer.result ≡ input_answer s = c.answer.ensures ∙ rw (refused, decided, c.empty_net.ensures) in
     record { answer = is; taken = input-taken s _ _ _ is (rw decided tt); refusals = only-refusals; encoded = λ none. input-encoded (input-taken s _ _ _ is (rw decided tt) none) }
 

@@ -12,8 +12,8 @@ use Rattle.program_one_port.proofs.write_output.Goals as goal
 pub write_refusal-requires : goal.write_refusal-requires
 write_refusal-requires c =
     let converted = c.convert-answer.ensures in
-    let kept = (output-refused c.args.file.now c.args.out.now c.requires _ _ (ap count_reply (sym c.in-Refused.is) ∙ converted.answer) converted.borrowed).1 in
-    rw kept (omega (arith, c.requires, length-refusal_text c.number.result c.in-Refused.place (search rules) (search rules)))
+    let kept = (output-refused c.args.file.now c.args.out.now c.requires _ _ (ap count_reply (sym c.in-Err.is) ∙ converted.answer) converted.borrowed).1 in
+    rw kept (omega (arith, c.requires, length-refusal_text c.number.result c.in-Err.place (search rules) (search rules)))
 
 pub returns-in-Written : goal.returns-in-Written
 returns-in-Written c =
@@ -21,13 +21,13 @@ returns-in-Written c =
     let w = output-written c.args.file.now c.args.out.now c.requires _ (ap count_reply (sym c.in-Written.is) ∙ converted.answer) converted.borrowed in
     record { text = w.0; most = w.1; converted = one-port-theorem; refusals = only-due }
 
-pub returns-in-Refused : goal.returns-in-Refused
-returns-in-Refused c =
+pub returns-in-Err : goal.returns-in-Err
+returns-in-Err c =
     let converted = c.convert-answer.ensures in
-    let q = output-refused c.args.file.now c.args.out.now c.requires _ _ (ap count_reply (sym c.in-Refused.is) ∙ converted.answer) converted.borrowed in
+    let q = output-refused c.args.file.now c.args.out.now c.requires _ _ (ap count_reply (sym c.in-Err.is) ∙ converted.answer) converted.borrowed in
     let w = c.write_refusal.ensures in record {
       text = rw q.0 (rw (c.number.ensures, q.1) at w);
-      most = omega (arith, w.counted, length-refusal_text c.number.result c.in-Refused.place (search rules) (search rules));
+      most = omega (arith, w.counted, length-refusal_text c.number.result c.in-Err.place (search rules) (search rules));
       converted = one-port-theorem;
       refusals = only-due;
     }

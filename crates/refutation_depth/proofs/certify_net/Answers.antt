@@ -6,9 +6,9 @@ use Rattle.refutation_depth.specs.Certificate.{certificate_reply, scratch_after}
 use Rattle.refutation_depth.proofs.Certificate.{both-shown}
 use Rattle.refutation_depth.proofs.certify_net.Goals as goal
 
-pub returns-in-Refused : goal.returns-in-Refused
+pub returns-in-Err : goal.returns-in-Err
 unfolding certificate_reply contents_after
-returns-in-Refused c = let v = sym c.test_room.ensures ∙ c.in-Refused.is in
+returns-in-Err c = let v = sym c.test_room.ensures ∙ c.in-Err.is in
     record { answer = c.refused.ensures ∙ rw (v, c.number.ensures); store = rw v; marks = refl }
 
 pub check_depth-requires : goal.check_depth-requires

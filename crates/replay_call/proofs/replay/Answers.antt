@@ -13,10 +13,10 @@ use Rattle.replay_call.proofs.TableSuffices.{table-suffices}
 use Rattle.replay_call.proofs.RightAnswer.{right_answer}
 use Rattle.replay_call.proofs.replay.Goals as goal
 
-pub returns-in-Refused : goal.returns-in-Refused
+pub returns-in-Err : goal.returns-in-Err
 unfolding replay_reply replay_sent replay_answer replay_memory replay_trace unless_refused trace_after outcome words_left
-returns-in-Refused c =
-    let v = sym c.test_replay.ensures ∙ c.in-Refused.is in record { answer = rw v; memory = rw v; trace = rw v; settled = (faults-settled, table-suffices, one-run, room-enough, right_answer) }
+returns-in-Err c =
+    let v = sym c.test_replay.ensures ∙ c.in-Err.is in record { answer = rw v; memory = rw v; trace = rw v; settled = (faults-settled, table-suffices, one-run, room-enough, right_answer) }
 
 pub word_count-requires : goal.word_count-requires
 word_count-requires c =

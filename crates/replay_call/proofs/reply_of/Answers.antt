@@ -11,6 +11,6 @@ pub returns-in-ClaimedUnsatisfiable : goal.returns-in-ClaimedUnsatisfiable
 unfolding replay_reply
 returns-in-ClaimedUnsatisfiable c = rw c.in-ClaimedUnsatisfiable.is
 
-pub returns-in-Refused : goal.returns-in-Refused
+pub returns-in-Err : goal.returns-in-Err
 unfolding replay_reply
-returns-in-Refused c = rw (c.in-Refused.is, c.number.ensures)
+returns-in-Err c = rw (c.in-Err.is, c.number.ensures)

@@ -28,9 +28,9 @@ shown c =
     let ok = depth-shown _ _ _ _ (sym (asked c)) in
     (sizes-lists c.args.net c.args.latches.now c.args.gates.now [] [] ok.0.limits.sizes, ok.1)
 
-pub returns-in-Refused : goal.returns-in-Refused
-returns-in-Refused c =
-    let refused = c.in-Refused.is in
+pub returns-in-Err : goal.returns-in-Err
+returns-in-Err c =
+    let refused = c.in-Err.is in
     refused ∙ sym (tests-refused _ _ _ _ _ _ (sym refused ∙ c.test_depth-asked.ensures))
 
 pub word_count-requires : goal.word_count-requires

@@ -3,10 +3,10 @@
 use Rattle.sheet_lines.specs.Depth.{with_depth}
 use Rattle.sheet_lines.proofs.with_depth.Goals as goal
 
-pub returns-in-Passed : goal.returns-in-Passed
+pub returns-in-Ok : goal.returns-in-Ok
 unfolding with_depth
-returns-in-Passed c = rw (c.in-Passed.is, c.value_of-depth.ensures)
+returns-in-Ok c = rw (c.in-Ok.is, c.value_of-depth.ensures)
 
-pub returns-in-Refused : goal.returns-in-Refused
+pub returns-in-Err : goal.returns-in-Err
 unfolding with_depth
-returns-in-Refused c = rw c.in-Refused.is
+returns-in-Err c = rw c.in-Err.is

@@ -19,10 +19,10 @@ use Rattle.sheet_one_port.proofs.OnePortCall.{text_same, accepted-text, one-port
 use Rattle.sheet_one_port.proofs.convert.Goals as goal
 use Rattle.sheet_one_port.proofs.convert.Goals.{In_default}
 
-pub returns-in-Refused : goal.returns-in-Refused
+pub returns-in-Err : goal.returns-in-Err
 unfolding count_reply one_port_verdict one_port_sent one_port_leaves with_count contents_after ◌then◌
-returns-in-Refused c =
-    let v = sym c.read_one_port-sheet.ensures.verdict-is ∙ c.in-Refused.is in
+returns-in-Err c =
+    let v = sym c.read_one_port-sheet.ensures.verdict-is ∙ c.in-Err.is in
     record { answer = rw v; borrowed = rw v; converted = one-port-theorem }
 
 -- the tests pass, and the record and the lists stand for a netlist with one port within its limits

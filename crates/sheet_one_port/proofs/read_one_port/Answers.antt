@@ -15,10 +15,10 @@ use Rattle.sheet_one_port.proofs.OnePortCall.{room-for-all, tests-refused, tests
 use Rattle.sheet_one_port.proofs.read_one_port.Goals as goal
 use Rattle.sheet_one_port.proofs.read_one_port.Goals.{In_default}
 
-pub returns-in-Refused : goal.returns-in-Refused
-returns-in-Refused c =
-    read-refused c.args.file.now c.in-Refused.is
-    (tests-refused c.args.file.now (sym (room-for-all c.args.file.now) ∙ sym (verdict-is c.read_codes-sheet.ensures) ∙ c.in-Refused.is))
+pub returns-in-Err : goal.returns-in-Err
+returns-in-Err c =
+    read-refused c.args.file.now c.in-Err.is
+    (tests-refused c.args.file.now (sym (room-for-all c.args.file.now) ∙ sym (verdict-is c.read_codes-sheet.ensures) ∙ c.in-Err.is))
 
 -- the sheet passes its own tests: the record and the lists hold its netlist, which is within its limits
 module _ (c : In_default) where
@@ -37,12 +37,12 @@ module _ (c : In_default) where
 pub test_second-used-requires : goal.test_second-used-requires
 test_second-used-requires c = sizes (goal.at.test_second-used-requires c).In_default
 
-pub returns-in-Refused-used : goal.returns-in-Refused-used
-returns-in-Refused-used c =
+pub returns-in-Err-used : goal.returns-in-Err-used
+returns-in-Err-used c =
     let file = c.args.file.now in
-    let held = holds c.read_codes-sheet.ensures (read-passed (goal.at.returns-in-Refused-used c).In_default) in
-    let second = rw held.net-is at (sym c.test_second-used.ensures ∙ c.in-Refused-used.is) in
-    rw c.refused.ensures (read-refused file refl (tests-second file (passed (goal.at.returns-in-Refused-used c).In_default) ∙ second))
+    let held = holds c.read_codes-sheet.ensures (read-passed (goal.at.returns-in-Err-used c).In_default) in
+    let second = rw held.net-is at (sym c.test_second-used.ensures ∙ c.in-Err-used.is) in
+    rw c.refused.ensures (read-refused file refl (tests-second file (passed (goal.at.returns-in-Err-used c).In_default) ∙ second))
 
 pub renumber-requires : goal.renumber-requires
 renumber-requires c =

@@ -56,9 +56,9 @@ judged c stored line order =
     ∙ rw (stored.net-is, line)
     (sym (step-due d c.args.kind c.args.place c.args.first c.args.second c.args.third c.args.empty (sym order ∙ c.if-is_past_last-is_due.false)))
 
-pub returns-in-Refused : goal.returns-in-Refused
-returns-in-Refused c =
-    rw c.refused-in-Refused.ensures (outcome-refused _ _ _ (sym (judged (goal.at.returns-in-Refused c).After-test_stored-verdict (taken (goal.at.returns-in-Refused c).After-store-next) (due (goal.at.returns-in-Refused c).After-line_due-due) (tested (goal.at.returns-in-Refused c).After-is_due)) ∙ c.in-Refused.is))
+pub returns-in-Err : goal.returns-in-Err
+returns-in-Err c =
+    rw c.refused-in-Err.ensures (outcome-refused _ _ _ (sym (judged (goal.at.returns-in-Err c).After-test_stored-verdict (taken (goal.at.returns-in-Err c).After-store-next) (due (goal.at.returns-in-Err c).After-line_due-due) (tested (goal.at.returns-in-Err c).After-is_due)) ∙ c.in-Err.is))
 
 pub returns : goal.returns
 returns c =

@@ -29,11 +29,11 @@ short-held c =
     let sizes = sizes-held c.test_file-sheet.result.net c.test_file-sheet.new.latches c.test_file-sheet.new.gates (held c) in
     rw (sizes.0, sizes.1)
 
-pub returns-in-Refused : goal.returns-in-Refused
-returns-in-Refused c =
+pub returns-in-Err : goal.returns-in-Err
+returns-in-Err c =
     let file = c.test_file-sheet.ensures in
-    outcome-kept _ _ (net_in c.args.file.now) file c.in-Refused.is
-    (sheet-refused c.args.file.now c.args.latch_room c.args.gate_room (sym (verdict-is file) ∙ c.in-Refused.is))
+    outcome-kept _ _ (net_in c.args.file.now) file c.in-Err.is
+    (sheet-refused c.args.file.now c.args.latch_room c.args.gate_room (sym (verdict-is file) ∙ c.in-Err.is))
 
 pub returns-then-latch_room-net : goal.returns-then-latch_room-net
 returns-then-latch_room-net c =

@@ -45,12 +45,12 @@ pub read_lines-sheet-requires : goal.read_lines-sheet-requires
 read_lines-sheet-requires c =
     (sym c.is_ragged.ensures ∙ c.if-is_ragged.false, c.requires.0, c.requires.1)
 
-pub returns-in-Refused : goal.returns-in-Refused
-returns-in-Refused c =
+pub returns-in-Err : goal.returns-in-Err
+returns-in-Err c =
     let file = c.args.file.now in
     let read = c.read_lines-sheet.ensures in
-    outcome-kept _ _ (net_in file) read c.in-Refused.is
-    (file-refused file (even (goal.at.returns-in-Refused c).Else-is_ragged) (sym (verdict-is read) ∙ c.in-Refused.is))
+    outcome-kept _ _ (net_in file) read c.in-Err.is
+    (file-refused file (even (goal.at.returns-in-Err c).Else-is_ragged) (sym (verdict-is read) ∙ c.in-Err.is))
 
 pub overflow_cast-count : goal.overflow_cast-count
 overflow_cast-count c = record { fits = omega (arith, (whole-lines c.args.file.now (even (goal.at.overflow_cast-count c).Else-is_ragged)).most) }
@@ -61,10 +61,10 @@ test_end-ended-requires c =
     let passed = passed_lines (goal.at.test_end-ended-requires c).In_default in
     (omega (arith, (whole-lines file (even (goal.at.test_end-ended-requires c).Else-is_ragged)).most), lines-passed file c.read_lines-sheet.result.net c.read_lines-sheet.new.latches c.read_lines-sheet.new.gates passed (holds c.read_lines-sheet.ensures passed).net-is)
 
-pub returns-in-Refused-ended : goal.returns-in-Refused-ended
-returns-in-Refused-ended c =
+pub returns-in-Err-ended : goal.returns-in-Err-ended
+returns-in-Err-ended c =
     let file = c.args.file.now in
-    rw c.refused-in-Refused-ended.ensures (outcome-refused _ _ (net_in file) (file-ended (goal.at.returns-in-Refused-ended c).After-test_end-ended ∙ c.in-Refused-ended.is))
+    rw c.refused-in-Err-ended.ensures (outcome-refused _ _ (net_in file) (file-ended (goal.at.returns-in-Err-ended c).After-test_end-ended ∙ c.in-Err-ended.is))
 
 pub returns : goal.returns
 returns c =

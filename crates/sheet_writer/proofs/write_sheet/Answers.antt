@@ -21,10 +21,10 @@ use Rattle.sheet_writer.proofs.WriteCall.{sheet-written}
 use Rattle.sheet_writer.proofs.write_sheet.Goals as goal
 use Rattle.sheet_writer.proofs.write_sheet.Goals.{In_default}
 
-pub returns-in-Refused : goal.returns-in-Refused
+pub returns-in-Err : goal.returns-in-Err
 unfolding count_reply write_sheet_verdict write_sent write_leaves with_count contents_after ◌then◌
-returns-in-Refused c =
-    let v = sym c.test_record.ensures ∙ c.in-Refused.is in
+returns-in-Err c =
+    let v = sym c.test_record.ensures ∙ c.in-Err.is in
     record { answer = rw v; borrowed = rw v; written = sheet-written }
 
 -- the record is accepted, its sizes fit, and so its sheet is so long
