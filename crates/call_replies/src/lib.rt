@@ -7,7 +7,7 @@ ghost use Rattle.call_unpacked.specs.Calls.{heading_reply};
 ghost use Rattle.sheet_parse.specs.LineAnswers.{without_fields, line_sent};
 ghost use Rattle.call_replies.specs.Replies.{group_of, group_numbers, next_numbers, sheet_numbers, header_version};
 
-use call_unpacked::{Heading, HeadingReply};
+use call_unpacked::{HeadingReply, ProblemLine};
 use group_order::Next;
 use model::Group;
 use netlist::Netlist;
@@ -127,11 +127,11 @@ pub fn count_numbers(answer: Written) -> CountReply
 }
 
 // A heading call's.
-pub fn heading_numbers(answer: Result<Heading, Refused>) -> HeadingReply
+pub fn heading_numbers(answer: Result<ProblemLine, Refused>) -> HeadingReply
     ensures { result ≡ heading_reply answer }
 {
     match answer {
-        Ok(Heading { variables, clauses }) => HeadingReply {
+        Ok(ProblemLine { variables, clauses }) => HeadingReply {
             number: 0,
             place: 0,
             variables,

@@ -19,7 +19,7 @@ use Rattle.refusals.specs.declared.Refused.{Refused}
 use Rattle.refusals.specs.declared.Refusal.TheVariants.{Depth, NoSuchGroup}
 use Rattle.netlist.specs.Places.{control_line}
 use Rattle.netlist_tests.specs.Record.{record_verdict}
-use Rattle.call_unpacked.specs.declared.Heading.{Heading}
+use Rattle.call_unpacked.specs.declared.ProblemLine.{ProblemLine}
 use Rattle.call_unpacked.specs.declared.HeadingReply.{HeadingReply}
 
 -- RULES T7: "k is over 255"
@@ -48,7 +48,7 @@ unfoldable pub with_heading : Verdict → ℕ → ℕ → HeadingReply
 with_heading w v n = record { number = (reply_of w).number; place = (reply_of w).place; variables = if_passed w v 0; clauses = if_passed w n 0 }
 
 -- the answer of a heading call in numbers (RULES N9)
-unfoldable pub heading_reply : Result Heading Refused → HeadingReply
+unfoldable pub heading_reply : Result ProblemLine Refused → HeadingReply
 heading_reply (Ok h) = with_heading Passed h.variables h.clauses
 heading_reply (Err e) = with_heading (Err e) 0 0
 

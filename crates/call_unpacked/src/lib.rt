@@ -19,7 +19,7 @@ use refusals::{Refusal, Refused, Verdict, Written};
 
 // A heading (RULES G23): the two counts of DIMACS' problem line. The line as text is the header (crate `dimacs`).
 #[derive(Clone, Copy)]
-pub struct Heading {
+pub struct ProblemLine {
     pub variables: u32,
     pub clauses: u32,
 }
@@ -60,7 +60,7 @@ pub fn heading(
     gates: &UnpackedList,
     gate_count: usize,
     depth: u32,
-) -> Result<Heading, Refused>
+) -> Result<ProblemLine, Refused>
     ensures { heading_reply result ≡ heading_sent (net_of net latches.now gates.now) latch_count gate_count depth }
 {
     test_depth(
@@ -72,7 +72,7 @@ pub fn heading(
         depth,
     )?;
     let variables = clause_variables::frame_base(net, depth + 1);
-    Ok(Heading {
+    Ok(ProblemLine {
         variables,
         clauses: group_counts::clause_count(net, latches, gates, depth),
     })

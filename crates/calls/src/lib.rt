@@ -13,7 +13,7 @@ ghost use Rattle.call_lists.specs.Lent.{net_lent};
 ghost use Rattle.calls.specs.LentCalls.{HeadingClaim, AcceptedTheorem};
 
 use call_lists::{GateEntry, LatchEntry};
-use call_unpacked::Heading;
+use call_unpacked::ProblemLine;
 use model::Group;
 use netlist::Netlist;
 use refusals::{Refused, Written};
@@ -24,7 +24,7 @@ pub fn heading(
     latches: &[LatchEntry],
     gates: &[GateEntry],
     depth: u32,
-) -> Result<Heading, Refused>
+) -> Result<ProblemLine, Refused>
     ensures answer { heading_reply result ≡ heading_sent (net_lent net latches.now gates.now) (length latches.now) (length gates.now) depth }
     ensures claim { HeadingClaim net latches.now gates.now depth }
     ensures paths { PathTheorem }

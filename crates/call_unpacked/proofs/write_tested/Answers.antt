@@ -6,11 +6,10 @@ use native.Mathlib.Omega.{arith}
 use lib.ListN.{length, take}
 use lib.Seq.{length-take-le}
 use Rattle.model.specs.Numbers.{numbers_of}
-use Rattle.refusals.specs.Slices.{with_count, contents_after}
+use Rattle.refusals.specs.Slices.{count_reply, with_count, contents_after}
 use Rattle.refusals.proofs.Slices.{room-enough, room-short}
 use Rattle.netlist.specs.NetOf.{net_of}
 use Rattle.group_counts.proofs.Counted.{wrote-front, numbers-most}
-use Rattle.call_unpacked.specs.Calls.{count_reply}
 use borrow.Author.Rules.{rules}
 use Rattle.call_unpacked.proofs.write_tested.Goals as goal
 use Rattle.call_unpacked.proofs.write_tested.Goals.{After-put_group-count}
