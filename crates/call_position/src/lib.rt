@@ -257,7 +257,7 @@ pub fn write_group_at(
     ensures answer { result ≡ group_at_sent (net_of net latches.now gates.now) latch_count gate_count position (group_of kind j position.frame port) (length out.old) }
     ensures borrowed { out.new ≡ group_at_leaves (net_of net latches.now gates.now) latch_count gate_count position (group_of kind j position.frame port) out.old }
 {
-    call_replies::group_numbers(group_at(
+    call_replies::count_numbers(group_at(
         net,
         latches,
         latch_count,

@@ -76,7 +76,7 @@ pub extern "C" fn marrubigai_write_group(
     ensures answer { result ≡ group_sent (net_lent net latches.now gates.now) (length latches.now) (length gates.now) depth (group_of kind j i port) (length out.old) }
     ensures borrowed { out.new ≡ group_leaves (net_lent net latches.now gates.now) (length latches.now) (length gates.now) depth (group_of kind j i port) out.old }
 {
-    call_replies::group_numbers(calls::write_group(
+    call_replies::count_numbers(calls::write_group(
         net,
         latches,
         gates,
@@ -201,7 +201,7 @@ pub extern "C" fn marrubigai_put_header(out: &mut [u8], variables: u32, clauses:
     ensures answer { result ≡ print_sent (header_text variables clauses) (length out.old) }
     ensures borrowed { out.new ≡ print_leaves (header_text variables clauses) out.old }
 {
-    call_replies::print_numbers(dimacs::put_header(out, variables, clauses))
+    call_replies::count_numbers(dimacs::put_header(out, variables, clauses))
 }
 
 // `dimacs::put_clauses`.
@@ -211,7 +211,7 @@ pub extern "C" fn marrubigai_put_clauses(out: &mut [u8], numbers: &[i32]) -> Cou
     ensures borrowed { out.new ≡ print_leaves (clause_text numbers.now) out.old }
     ensures others { OtherNumbers }
 {
-    call_replies::print_numbers(dimacs::put_clauses(out, numbers))
+    call_replies::count_numbers(dimacs::put_clauses(out, numbers))
 }
 
 // `dimacs::put_refusal`.
@@ -220,7 +220,7 @@ pub extern "C" fn marrubigai_put_refusal(out: &mut [u8], number: u32, place: u32
     ensures answer { result ≡ print_sent (refusal_text number place) (length out.old) }
     ensures borrowed { out.new ≡ print_leaves (refusal_text number place) out.old }
 {
-    call_replies::print_numbers(dimacs::put_refusal(out, number, place))
+    call_replies::count_numbers(dimacs::put_refusal(out, number, place))
 }
 
 // `dimacs::put_number`.
@@ -230,7 +230,7 @@ pub extern "C" fn marrubigai_put_number(out: &mut [u8], number: i32) -> CountRep
     ensures borrowed { out.new ≡ fill_leaves (signed_digits number) out.old }
     ensures printed { NumberPrinted }
 {
-    call_replies::print_numbers(dimacs::put_number(out, number))
+    call_replies::count_numbers(dimacs::put_number(out, number))
 }
 
 // `replay_answer::replay`, of lent lists.
@@ -373,7 +373,7 @@ pub extern "C" fn marrubigai_write_sheet(
     call_lists::unpack::unpack_latches(&mut latch_codes, latches);
     let mut gate_codes = [0; 1200];
     call_lists::unpack::unpack_gates(&mut gate_codes, gates);
-    call_replies::print_numbers(sheet_writer::write_sheet(
+    call_replies::count_numbers(sheet_writer::write_sheet(
         net,
         &latch_codes,
         latches.len(),
@@ -399,7 +399,7 @@ pub extern "C" fn marrubigai_export(
     call_lists::unpack::unpack_latches(&mut latch_codes, latches);
     let mut gate_codes = [0; 1200];
     call_lists::unpack::unpack_gates(&mut gate_codes, gates);
-    call_replies::print_numbers(aiger_export::export_binary(
+    call_replies::count_numbers(aiger_export::export_binary(
         net,
         &latch_codes,
         latches.len(),
@@ -433,7 +433,7 @@ pub extern "C" fn marrubigai_one_port(file: &[u8], out: &mut [u8]) -> CountReply
     ensures borrowed { out.new ≡ one_port_leaves file.now out.old }
     ensures converted { OnePortTheorem }
 {
-    call_replies::print_numbers(sheet_one_port::convert(file, out))
+    call_replies::count_numbers(sheet_one_port::convert(file, out))
 }
 
 // `invariant_check::certify_forever`.

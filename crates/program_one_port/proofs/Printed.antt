@@ -22,8 +22,6 @@ use Rattle.netlist.specs.Places.{control_line, line_at}
 use Rattle.netlist_tests.specs.Record.{test_line, test_lines}
 use Rattle.dimacs.specs.Text.{refusal_text}
 use Rattle.refusals.specs.Slices.{count_reply}
-use Rattle.dimacs.specs.declared.PrintAnswer.{PrintAnswer}
-use Rattle.dimacs.specs.declared.PrintAnswer.TheVariants.{Written}
 use Rattle.sheet_parse.specs.Files.{net_in}
 use Rattle.sheet_tests.specs.Sheet.{file_verdict}
 use Rattle.sheet_one_port.specs.SecondPort.{second_use, test_second}
@@ -93,7 +91,7 @@ module _ (file old : List ℕ) (room : 20064 ≤ length old) where
       by_tests (Ok _) e = rw e (room-enough (length (one_port_text file)) (length old) (omega (arith, text-most file e)))
       by_tests (Err f) e = rw e
 
-  pub output-written : (n : ℕ) {new : List ℕ} → count_reply (Written n) ≡ one_port_sent file (length old) → new ≡ one_port_leaves file old
+  pub output-written : (n : ℕ) {new : List ℕ} → count_reply (Ok n) ≡ one_port_sent file (length old) → new ≡ one_port_leaves file old
       → Wrote (one_port_output file) old new n × (n ≤ 20064)
   unfolding count_reply one_port_sent one_port_leaves one_port_output text_or_refusal contents_after
   output-written n sent leaves =
@@ -101,7 +99,7 @@ module _ (file old : List ℕ) (room : 20064 ≤ length old) where
       let passed = sym verdict-tests ∙ told.0 in
       (rw passed (record { counted = told.1; leaves = leaves ∙ rw told.0 }), omega (arith, told.1, text-most file passed))
 
-  pub output-refused : (r : Refusal) (p : ℕ) {new : List ℕ} → count_reply (PrintAnswer.Refused r p) ≡ one_port_sent file (length old)
+  pub output-refused : (r : Refusal) (p : ℕ) {new : List ℕ} → count_reply (refuse r p) ≡ one_port_sent file (length old)
       → new ≡ one_port_leaves file old → (one_port_output file ≡ refusal_text (refusal_number r) p) × (new ≡ old)
   unfolding count_reply one_port_sent one_port_leaves one_port_output
   output-refused r p sent leaves =

@@ -6,6 +6,7 @@ ghost use Rattle.model.specs.Wrote.{Wrote};
 ghost use Rattle.sheet_one_port.specs.OnePortCall.{OnePortTheorem};
 ghost use Rattle.program_one_port.specs.Printed.{one_port_output, OnlyOnePortRefusals};
 
+use refusals::Refused;
 
 // Converts a sheet, and writes the sheet with one port or the refusal into a slice that has room for the longest.
 pub fn write_output(out: &mut [u8], file: &[u8]) -> usize

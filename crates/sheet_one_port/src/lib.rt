@@ -191,8 +191,7 @@ pub fn convert(file: &[u8], out: &mut [u8]) -> Written
     let mut latches = sheet_tests::no_codes();
     let mut gates = sheet_tests::no_codes();
     let sheet = read_one_port(file, &mut latches, &mut gates);
-    let read = sheet.verdict;
-    read?;
+    sheet.verdict?;
     let net = sheet.net;
     if out.len() < 32 * (netlist::control_line(net) as usize) {
         return Err(Refused(Refusal::NoRoom, 0));

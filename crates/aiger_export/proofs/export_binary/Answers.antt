@@ -6,6 +6,7 @@ use native.Mathlib.Omega.{arith}
 use borrow.Author.Rules.{rules}
 use lib.ListN.{length, take}
 use lib.Seq.{length-take-le}
+use Rattle.std.proofs.lemmas.Result.{err_from_is_err_and}
 use Rattle.refusals.specs.Verdict.{Passed}
 use Rattle.refusals.specs.Tests.{◌then◌}
 use Rattle.refusals.specs.Slices.{with_count, contents_after}
@@ -19,27 +20,28 @@ use Rattle.aiger_export.proofs.Exported.{exported}
 use Rattle.aiger_export.proofs.export_binary.Goals as goal
 use Rattle.aiger_export.proofs.export_binary.Goals.{After-put_file-count, In_default}
 
-pub returns-in-Err : goal.returns-in-Err
+pub returns-in_err-test_export : goal.returns-in_err-test_export
 unfolding count_reply export_verdict export_sent export_leaves with_count contents_after ◌then◌
-returns-in-Err c =
-    let v = sym c.test_export.ensures ∙ c.in-Err.is in
-    record { answer = rw v; borrowed = rw v; exported = exported }
+returns-in_err-test_export c =
+    let p = err_from_is_err_and c.from_residual.result c.from_residual.ensures.1 in
+    let v = sym c.in_err-test_export.ensures in
+    record { answer = rw (p.1, p.2, v); borrowed = rw v; exported = exported }
 
 -- the record passes its tests
-passed : (c : In_default) → test_export (net_of c.args.net c.args.latches.now c.args.gates.now) c.args.latch_count c.args.gate_count ≡ Passed
-passed c = sym c.test_export.ensures ∙ c.in_default.is
+passed : (c : In_ok-test_export) → test_export (net_of c.args.net c.args.latches.now c.args.gates.now) c.args.latch_count c.args.gate_count ≡ Passed
+passed c = sym c.in_ok-test_export.ensures
 
-single : (c : In_default) → c.args.net.second_port ≡ 0
+single : (c : In_ok-test_export) → c.args.net.second_port ≡ 0
 unfolding net_of
 single c = single-port _ _ _ (passed c)
 
 pub put_file-count-requires : goal.put_file-count-requires
-put_file-count-requires c = ((accepted _ _ _ (passed (goal.at.put_file-count-requires c).In_default)).limits, search rules, single (goal.at.put_file-count-requires c).In_default)
+put_file-count-requires c = ((accepted _ _ _ (passed (goal.at.put_file-count-requires c).In_ok-test_export)).limits, search rules, single (goal.at.put_file-count-requires c).In_ok-test_export)
 
 pub returns-then-out-count : goal.returns-then-out-count
 unfolding count_reply export_verdict export_sent export_leaves with_count contents_after ◌then◌
 returns-then-out-count c =
-    let v = passed (goal.at.returns-then-out-count c).In_default in
+    let v = passed (goal.at.returns-then-out-count c).In_ok-test_export in
     let w = c.put_file-count.ensures.0 in
     let short = room-short (length (export_text (net_of c.args.net c.args.latches.now c.args.gates.now))) (length c.args.out.now) (omega (arith, w.counted, c.if-out-count.true)) in
     record { answer = rw (v, short); borrowed = rw (v, short); exported = exported }
@@ -62,7 +64,7 @@ write_word-requires c =
 pub returns : goal.returns
 unfolding count_reply export_verdict export_sent export_leaves with_count contents_after ◌then◌
 returns c =
-    let v = passed (goal.at.returns c).In_default in
+    let v = passed (goal.at.returns c).In_ok-test_export in
     let w = c.put_file-count.ensures.0 in
     let x = rw (wrote-front w) at c.write_word.ensures in
     let enough = room-enough (length (export_text (net_of c.args.net c.args.latches.now c.args.gates.now))) (length c.args.out.now) (omega (arith, w.counted, c.if-out-count.false)) in

@@ -3,9 +3,9 @@
 use Rattle.call_unpacked.specs.Calls.{heading_reply, with_heading}
 use Rattle.call_replies.proofs.heading_numbers.Goals as goal
 
-pub returns-in-Heading : goal.returns-in-Heading
+pub returns-in-Ok : goal.returns-in-Ok
 unfolding heading_reply with_heading
-returns-in-Heading c = rw c.in-Heading.is
+returns-in-Ok c = rw c.in-Ok.is
 
 pub returns-in-Err : goal.returns-in-Err
 unfolding heading_reply with_heading

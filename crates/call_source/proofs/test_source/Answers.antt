@@ -5,6 +5,7 @@ use mathlib.Core.Path.{◌≡◌, sym, ◌∙◌, ap}
 use mathlib.Core.Bool.{not}
 use lib.Dec.{leb, ltb}
 use borrow.Author.Tests.{leb-true}
+use Rattle.std.proofs.lemmas.Result.{err_from_is_err_and}
 use Rattle.model.specs.Netlist.{IsPort, port, ports, last_wire}
 use Rattle.model.specs.Groups.{in_depth}
 use Rattle.model.specs.Acceptance.{SizesFit}
@@ -19,15 +20,15 @@ use Rattle.call_source.proofs.Sources.{port-there}
 use Rattle.call_source.proofs.test_source.Goals as goal
 use Rattle.call_source.proofs.test_source.Goals.{After-has_source, After-is_above, Else-not-has_source, In_default}
 
-pub returns-in-Err : goal.returns-in-Err
+pub returns-in_err-test_numbering : goal.returns-in_err-test_numbering
 unfolding source_verdict ◌then◌
-returns-in-Err c =
-    let refused = c.in-Err.is in
-    rw (refused, sym c.test_numbering-asked.ensures ∙ refused)
+returns-in_err-test_numbering c =
+    let p = err_from_is_err_and c.from_residual.result c.from_residual.ensures.1 in
+    rw (p.1, p.2, sym c.in_err-test_numbering.ensures)
 
 -- the sizes fit
-sizes : (c : In_default) → SizesFit (alone c.args.net)
-sizes c = (numbering-shown _ _ (sym c.test_numbering-asked.ensures ∙ c.in_default.is)).0
+sizes : (c : In_ok-test_numbering) → SizesFit (alone c.args.net)
+sizes c = (numbering-shown _ _ (sym c.in_ok-test_numbering.ensures)).0
 
 pub port_count-requires : goal.port_count-requires
 port_count-requires c = sizes c
@@ -38,7 +39,7 @@ behind : (c : After-has_source) →
     ≡ (refuse_if (not c.has_source.result) NoSuchGroup 0 then refuse_if (ltb (2 * last_wire (alone c.args.net) + 1) (port (alone c.args.net) (port_in c.args.group)).RE) CodeOutside 0)
 unfolding source_verdict ◌then◌
 behind c =
-    rw (sym c.test_numbering-asked.ensures ∙ c.in_default.is, c.has_source.ensures, c.port_count.ensures)
+    rw (sym c.in_ok-test_numbering.ensures, c.has_source.ensures, c.port_count.ensures)
 
 pub returns-then-not-has_source : goal.returns-then-not-has_source
 unfolding ◌then◌
@@ -53,10 +54,10 @@ there c =
     port-there (alone c.args.net) c.args.depth c.args.group both.0 (leb-true 1 (port_in c.args.group) both.1)
 
 pub port_of-requires : goal.port_of-requires
-port_of-requires c = (sizes (goal.at.port_of-requires c).In_default, rw c.port_in.ensures (there (goal.at.port_of-requires c).Else-not-has_source))
+port_of-requires c = (sizes (goal.at.port_of-requires c).In_ok-test_numbering, rw c.port_in.ensures (there (goal.at.port_of-requires c).Else-not-has_source))
 
 pub last_wire-requires : goal.last_wire-requires
-last_wire-requires c = sizes (goal.at.last_wire-requires c).In_default
+last_wire-requires c = sizes (goal.at.last_wire-requires c).In_ok-test_numbering
 
 -- only the test of RE is left
 left : (c : After-is_above) →

@@ -7,7 +7,7 @@ pub returns-clause-answer : goal.returns-clause-answer
 returns-clause-answer c =
     let same = net_of-lent c.args.net c.args.latches.now c.args.gates.now _ _ c.unpack_latches.ensures c.unpack_gates.ensures in
     let sent = rw same at c.write_sheet.ensures.answer in
-    c.print_numbers.ensures ∙ sent
+    c.count_numbers.ensures ∙ sent
 
 pub returns-clause-borrowed : goal.returns-clause-borrowed
 returns-clause-borrowed c =

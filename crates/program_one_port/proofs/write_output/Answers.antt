@@ -15,10 +15,10 @@ write_refusal-requires c =
     let kept = (output-refused c.args.file.now c.args.out.now c.requires _ _ (ap count_reply (sym c.in-Err.is) ∙ converted.answer) converted.borrowed).1 in
     rw kept (omega (arith, c.requires, length-refusal_text c.number.result c.in-Err.place (search rules) (search rules)))
 
-pub returns-in-Written : goal.returns-in-Written
-returns-in-Written c =
+pub returns-in-Ok : goal.returns-in-Ok
+returns-in-Ok c =
     let converted = c.convert-answer.ensures in
-    let w = output-written c.args.file.now c.args.out.now c.requires _ (ap count_reply (sym c.in-Written.is) ∙ converted.answer) converted.borrowed in
+    let w = output-written c.args.file.now c.args.out.now c.requires _ (ap count_reply (sym c.in-Ok.is) ∙ converted.answer) converted.borrowed in
     record { text = w.0; most = w.1; converted = one-port-theorem; refusals = only-due }
 
 pub returns-in-Err : goal.returns-in-Err

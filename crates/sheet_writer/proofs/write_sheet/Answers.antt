@@ -4,6 +4,7 @@ use mathlib.Core.Path.{◌≡◌, sym, ◌∙◌}
 use mathlib.Core.List.{[]}
 use native.Mathlib.Omega.{arith}
 use lib.ListN.{length}
+use Rattle.std.proofs.lemmas.Result.{err_from_is_err_and}
 use Rattle.refusals.specs.Verdict.{Passed}
 use Rattle.model.specs.Acceptance.{Accepted}
 use Rattle.refusals.specs.Tests.{◌then◌}
@@ -19,18 +20,19 @@ use Rattle.sheet_writer.specs.WriteCall.{write_sheet_verdict, write_sent, write_
 use Rattle.sheet_text.proofs.SheetText.{length-sheet_text}
 use Rattle.sheet_writer.proofs.WriteCall.{sheet-written}
 use Rattle.sheet_writer.proofs.write_sheet.Goals as goal
-use Rattle.sheet_writer.proofs.write_sheet.Goals.{In_default}
+use Rattle.sheet_writer.proofs.write_sheet.Goals.{In_ok-test_record}
 
-pub returns-in-Err : goal.returns-in-Err
+pub returns-in_err-test_record : goal.returns-in_err-test_record
 unfolding count_reply write_sheet_verdict write_sent write_leaves with_count contents_after ◌then◌
-returns-in-Err c =
-    let v = sym c.test_record.ensures ∙ c.in-Err.is in
-    record { answer = rw v; borrowed = rw v; written = sheet-written }
+returns-in_err-test_record c =
+    let p = err_from_is_err_and c.from_residual.result c.from_residual.ensures.1 in
+    let v = sym c.in_err-test_record.ensures in
+    record { answer = rw (p.1, p.2, v); borrowed = rw v; written = sheet-written }
 
 -- the record is accepted, its sizes fit, and so its sheet is so long
-module _ (c : In_default) where
+module _ (c : In_ok-test_record) where
   passed : record_verdict (net_of c.args.net c.args.latches.now c.args.gates.now) c.args.latch_count c.args.gate_count ≡ Passed
-  passed = sym c.test_record.ensures ∙ c.in_default.is
+  passed = sym c.in_ok-test_record.ensures
 
   accepted : Accepted (net_of c.args.net c.args.latches.now c.args.gates.now)
   accepted = ((passes-accepted _ _ _).0 passed).0
@@ -41,18 +43,18 @@ control_line-requires c = sizes-lists _ _ _ [] [] (accepted c).limits.sizes
 pub returns-then-out-control_line : goal.returns-then-out-control_line
 unfolding net_of count_reply write_sheet_verdict write_sent write_leaves with_count contents_after ◌then◌
 returns-then-out-control_line c =
-    let v = passed (goal.at.returns-then-out-control_line c).In_default in
-    let short = room-short (length (sheet_text (net_of c.args.net c.args.latches.now c.args.gates.now))) (length c.args.out.now) (omega (arith, length-sheet_text _ (accepted (goal.at.returns-then-out-control_line c).In_default).limits, c.if-out-control_line.true, c.control_line.ensures)) in
+    let v = passed (goal.at.returns-then-out-control_line c).In_ok-test_record in
+    let short = room-short (length (sheet_text (net_of c.args.net c.args.latches.now c.args.gates.now))) (length c.args.out.now) (omega (arith, length-sheet_text _ (accepted (goal.at.returns-then-out-control_line c).In_ok-test_record).limits, c.if-out-control_line.true, c.control_line.ensures)) in
     record { answer = rw (v, short); borrowed = rw (v, short); written = sheet-written }
 
 pub put_sheet-requires : goal.put_sheet-requires
 put_sheet-requires c =
-    (sizes-lists _ _ _ [] [] (accepted (goal.at.put_sheet-requires c).In_default).limits.sizes, omega (arith, c.if-out-control_line.false, c.control_line.ensures))
+    (sizes-lists _ _ _ [] [] (accepted (goal.at.put_sheet-requires c).In_ok-test_record).limits.sizes, omega (arith, c.if-out-control_line.false, c.control_line.ensures))
 
 pub returns : goal.returns
 unfolding net_of count_reply write_sheet_verdict write_sent write_leaves with_count contents_after ◌then◌
 returns c =
-    let v = passed (goal.at.returns c).In_default in
+    let v = passed (goal.at.returns c).In_ok-test_record in
     let w = c.put_sheet.ensures in
-    let enough = room-enough (length (sheet_text (net_of c.args.net c.args.latches.now c.args.gates.now))) (length c.args.out.now) (omega (arith, length-sheet_text _ (accepted (goal.at.returns c).In_default).limits, c.if-out-control_line.false, c.control_line.ensures)) in
+    let enough = room-enough (length (sheet_text (net_of c.args.net c.args.latches.now c.args.gates.now))) (length c.args.out.now) (omega (arith, length-sheet_text _ (accepted (goal.at.returns c).In_ok-test_record).limits, c.if-out-control_line.false, c.control_line.ensures)) in
     record { answer = rw (v, enough, w.counted); borrowed = rw (v, enough) w.leaves; written = sheet-written }
