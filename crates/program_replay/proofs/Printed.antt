@@ -8,6 +8,7 @@ use native.Mathlib.Omega.{arith}
 use lib.ListN.{length, take, drop}
 use lib.Seq.{take-append_seam}
 use borrow.Author.Tests.{ne_eqb}
+use Rattle.std.specs.Prelude.{Ok, Err}
 use Rattle.model.specs.Netlist.{Netlist}
 use Rattle.model.specs.Acceptance.{Accepted}
 use Rattle.model.specs.Wrote.{over}
@@ -18,9 +19,8 @@ use Rattle.dimacs.specs.Text.{refusal_text}
 use Rattle.answer_lines.specs.Answer.{answer_in, answer_kind}
 use Rattle.replay_frame.specs.Replay.{Said, trace_text, trace_length}
 use Rattle.replay_run.proofs.Through.{length-lines}
-use Rattle.replay_call.specs.ReplayCall.{unless_refused, outcome, replay_answer, replay_reply, replay_sent, trace_after, replay_trace}
-use Rattle.replay_call.specs.declared.ReplayAnswer.{ReplayAnswer}
-use Rattle.replay_call.specs.declared.ReplayAnswer.TheVariants.{Broken, ClaimedUnsatisfiable, Refused}
+use Rattle.replay_call.specs.ReplayCall.{ReplayAnswer, unless_refused, outcome, replay_answer, replay_reply, replay_sent, trace_after, replay_trace}
+use Rattle.replay_call.specs.declared.Replayed.TheVariants.{Broken, ClaimedUnsatisfiable}
 use Rattle.replay_call.specs.declared.ReplayReply.{ReplayReply}
 use Rattle.replay_answer.specs.ReplayAnswer.{said_of, replay_for, trace_for}
 use Rattle.program_input.specs.Input.{input_answer, InputTaken}
@@ -38,9 +38,9 @@ lines-front c y k old = rw (← length-lines c y (k + 1)) (take-append_seam (tra
 front : (c : Netlist) (y : Said) (k : ℕ) (old : List ℕ) (a : ReplayAnswer)
     → take (cond (is_broken (replay_reply a)) (trace_length c k) 0) (trace_after a (trace_text c y k) old) ≡ cond (is_broken (replay_reply a)) (trace_text c y k) []
 unfolding is_broken replay_reply trace_after
-front c y k old (Broken i) = lines-front c y k old
-front c y k old ClaimedUnsatisfiable = refl
-front c y k old (Refused r p) = rw (ne_eqb (refusal_number r) 0 (λ h. omega (arith, refusal_number-some r)))
+front c y k old (Ok (Broken i)) = lines-front c y k old
+front c y k old (Ok ClaimedUnsatisfiable) = refl
+front c y k old (Err e) = rw (ne_eqb (refusal_number e.0) 0 (λ h. omega (arith, refusal_number-some e.0)))
 
 -- the first line, and so much of the trace
 pub replayed-text : (c : Netlist) (k : ℕ) (t old : List ℕ) (reply : ReplayReply) (trace : List ℕ) (bytes : ℕ) → Accepted c → k ≤ 255

@@ -13,8 +13,7 @@ use Rattle.answer_lines.specs.declared.AnswerKind.{AnswerKind}
 use Rattle.answer_lines.specs.declared.AnswerKind.TheVariants.{Satisfiable}
 use Rattle.answer_scan.specs.AnswerRead.{AnswerRead}
 use Rattle.replay_frame.specs.Replay.{Said, said_in}
-use Rattle.replay_call.specs.ReplayCall.{replay_answer, replay_sent, replay_memory, replay_trace, replay_tests, unless_refused, outcome, words_left, trace_after}
-use Rattle.replay_call.specs.declared.ReplayAnswer.{ReplayAnswer}
+use Rattle.replay_call.specs.ReplayCall.{ReplayAnswer, replay_answer, replay_sent, replay_memory, replay_trace, replay_tests, unless_refused, outcome, words_left, trace_after}
 use Rattle.replay_call.specs.Settled.{said_by}
 use Rattle.replay_call.specs.Table.{ReplayAlike}
 use Rattle.replay_call.proofs.TableSuffices.{table-suffices}

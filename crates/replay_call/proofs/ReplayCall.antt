@@ -8,6 +8,7 @@ use native.Mathlib.Omega.{arith}
 use lib.ListN.{length, take, drop}
 use lib.Seq.{take-append_seam}
 use borrow.Author.Tests.{le-ltb, lt-ltb}
+use Rattle.std.specs.Prelude.{Ok, Err}
 use Rattle.refusals.specs.Verdict.{Verdict, Passed, refuse}
 use Rattle.model.specs.Wrote.{over, Wrote}
 use Rattle.model.specs.Netlist.{Netlist}
@@ -28,7 +29,7 @@ use Rattle.replay_run.specs.Runs.{RunFits}
 use Rattle.replay_run.proofs.Through.{length-lines}
 use Rattle.replay_call.specs.ReplayCall.{replay_tests, fed_fault, run_verdict, unless_refused, outcome, words_left, trace_after}
 use Rattle.replay_call.specs.Table.{ReplaysValues}
-use Rattle.replay_call.specs.declared.ReplayAnswer.TheVariants as answers
+use Rattle.replay_call.specs.declared.Replayed.TheVariants.{Broken}
 
 -- the longest trace
 pub trace-small : (k w : ℕ) → k ≤ 255 → w ≤ 600 → (k + 1) * (w + 1) ≤ 153856
@@ -85,7 +86,7 @@ tests-shown c latch_count gate_count k memory trace h =
 module _ (c : Netlist) (y : Said) (k : ℕ) (memory trace : List ℕ) where
   -- 14: zeros in the place of the run's words
   pub values-unclear : 2 ^ c.m ≤ length memory → fed_fault c y k ≡ true
-      → ReplaysValues c y k memory trace (delivered (2 ^ c.m) (λ _. 0) (delivered (2 ^ c.m) (replayed_state c y (k + 1)).memory memory)) trace (answers.Refused NoAnswer 0)
+      → ReplaysValues c y k memory trace (delivered (2 ^ c.m) (λ _. 0) (delivered (2 ^ c.m) (replayed_state c y (k + 1)).memory memory)) trace (Err (record { 0 = NoAnswer; 1 = 0 }))
   unfolding outcome run_verdict unless_refused ◌then◌ words_left trace_after
   values-unclear size e =
       record {
@@ -96,7 +97,7 @@ module _ (c : Netlist) (y : Said) (k : ℕ) (memory trace : List ℕ) where
 
   -- 15: the run's words
   pub values-safe : fed_fault c y k ≡ false → k < first_violation c y k
-      → ReplaysValues c y k memory trace (delivered (2 ^ c.m) (replayed_state c y (k + 1)).memory memory) trace (answers.Refused NoViolation 0)
+      → ReplaysValues c y k memory trace (delivered (2 ^ c.m) (replayed_state c y (k + 1)).memory memory) trace (Err (record { 0 = NoViolation; 1 = 0 }))
   unfolding outcome run_verdict unless_refused ◌then◌ words_left trace_after
   values-safe e l =
       record {
@@ -107,7 +108,7 @@ module _ (c : Netlist) (y : Said) (k : ℕ) (memory trace : List ℕ) where
 
   -- neither: the run's words and lines
   pub values-broken : fed_fault c y k ≡ false → first_violation c y k ≤ k → {trace' : List ℕ} → trace' ≡ over (trace_text c y k) trace
-      → ReplaysValues c y k memory trace (delivered (2 ^ c.m) (replayed_state c y (k + 1)).memory memory) trace' (answers.Broken (first_violation c y k))
+      → ReplaysValues c y k memory trace (delivered (2 ^ c.m) (replayed_state c y (k + 1)).memory memory) trace' (Ok (Broken (first_violation c y k)))
   unfolding outcome run_verdict unless_refused ◌then◌ words_left trace_after
   values-broken e l lines =
       record {

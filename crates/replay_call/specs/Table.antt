@@ -7,9 +7,8 @@ use Rattle.answer_signs.specs.Signs.{SignsOf}
 use Rattle.answer_lines.specs.declared.AnswerKind.{AnswerKind}
 use Rattle.answer_lines.specs.declared.AnswerKind.TheVariants.{Satisfiable}
 use Rattle.replay_frame.specs.Replay.{Said, said_in, trace_text}
-use Rattle.replay_call.specs.ReplayCall.{outcome, words_left, trace_after, replay_sent, replay_memory, replay_trace}
+use Rattle.replay_call.specs.ReplayCall.{ReplayAnswer, outcome, words_left, trace_after, replay_sent, replay_memory, replay_trace}
 use Rattle.replay_call.specs.Settled.{said_by}
-use Rattle.replay_call.specs.declared.ReplayAnswer.{ReplayAnswer}
 
 -- a satisfiable answer that has passed the tests
 pub record ReplaysValues (c : Netlist) (y : Said) (k : ℕ) (memory trace memory' trace' : List ℕ) (r : ReplayAnswer) : Type 0 where

@@ -166,13 +166,11 @@ pub fn replay(
     match kind {
         AnswerKind::Malformed => {
             replay_run::fill_words(memory, replay_run::word_count(net), 0);
-            return Err(Refused(Refusal::NoAnswer, 0));
+            Err(Refused(Refusal::NoAnswer, 0))
         }
-        AnswerKind::Unsatisfiable => {
-            return Ok(Replayed::ClaimedUnsatisfiable);
-        }
+        AnswerKind::Unsatisfiable => Ok(Replayed::ClaimedUnsatisfiable),
         AnswerKind::Satisfiable => {
-            return replay_values(net, latches, gates, depth, signs, memory, trace);
+            replay_values(net, latches, gates, depth, signs, memory, trace)
         }
     }
 }
