@@ -13,13 +13,10 @@ use mir.Syntax.{w32}
 use mir.Val.{SFits, to_z, of_z}
 use mir.ValLaws.{to_z-of_z, to_z_pos}
 use borrow.Author.Tests.{lt-ltb, ltb-true, ne_eqb}
+use Rattle.std.specs.Prelude.{Option, Some, None}
 use Rattle.decimal.specs.Digits.{minus_sign, digits, signed_digits}
 use Rattle.decimal.specs.TextValue.{same_text, value_after, number_in}
 use Rattle.decimal.specs.SignedValue.{signed_value, clause_number_in}
-use Rattle.decimal.specs.declared.Number.{Number}
-use Rattle.decimal.specs.declared.Number.TheVariants as number
-use Rattle.decimal.specs.declared.ClauseNumber.{ClauseNumber}
-use Rattle.decimal.specs.declared.ClauseNumber.TheVariants.{Value, NotANumber}
 use Rattle.decimal.proofs.Digits.{length-digits-some}
 use Rattle.decimal.proofs.TextValue.{same_text-refl, same_text-true, value_after-digits, first-is-digit, number_in-digits, digits-number_in}
 
@@ -39,18 +36,18 @@ signed_value-digits (pos x) = unsigned-value (digits x) (digits-unsigned x) ∙ 
 signed_value-digits (negsuc x) = unfold signed_value in rw (value_after-digits (suc x))
 
 -- what is written reads back as the same number
-pub clause_number_in-digits : (z : ℤ) → nat_abs z < 2 ^ 31 → clause_number_in (signed_digits z) ≡ Value z
+pub clause_number_in-digits : (z : ℤ) → nat_abs z < 2 ^ 31 → clause_number_in (signed_digits z) ≡ Some z
 unfolding clause_number_in
 clause_number_in-digits z h = rw (signed_value-digits z, same_text-refl, lt-ltb (nat_abs z) (2 ^ 31) h)
 
 -- what is read is the text of its number
-pub digits-clause_number_in : (s : List ℕ) (z : ℤ) → clause_number_in s ≡ Value z → (s ≡ signed_digits z) × (nat_abs z < 2 ^ 31)
+pub digits-clause_number_in : (s : List ℕ) (z : ℤ) → clause_number_in s ≡ Some z → (s ≡ signed_digits z) × (nat_abs z < 2 ^ 31)
 unfolding clause_number_in
 digits-clause_number_in s z h =
     by-test (same_text s (signed_digits (signed_value s))) (ltb (nat_abs (signed_value s)) (2 ^ 31)) refl refl h
   where
     by-test : (a b : Bool) → same_text s (signed_digits (signed_value s)) ≡ a → ltb (nat_abs (signed_value s)) (2 ^ 31) ≡ b
-        → cond (a && b) (Value (signed_value s)) NotANumber ≡ Value z → (s ≡ signed_digits z) × (nat_abs z < 2 ^ 31)
+        → cond (a && b) (Some (signed_value s)) None ≡ Some z → (s ≡ signed_digits z) × (nat_abs z < 2 ^ 31)
     by-test true true p q h =
         let e : signed_value s ≡ z = cc in
         (same_text-true s (signed_digits (signed_value s)) p ∙ ap signed_digits e, rw e at (ltb-true (nat_abs (signed_value s)) (2 ^ 31) q))
@@ -58,17 +55,17 @@ digits-clause_number_in s z h =
     by-test false b p q h = let z : ◌≡◌ {A = ℕ} 0 1 = cc in absurd (omega arith)
 
 -- a text that is no number's is read as none
-pub clause_number_in-other : (s : List ℕ) → ((z : ℤ) → nat_abs z < 2 ^ 31 → s ≡ signed_digits z → ⊥) → clause_number_in s ≡ NotANumber
+pub clause_number_in-other : (s : List ℕ) → ((z : ℤ) → nat_abs z < 2 ^ 31 → s ≡ signed_digits z → ⊥) → clause_number_in s ≡ None
 clause_number_in-other s none = by_answer (clause_number_in s) refl
   where
-    by_answer : (r : ClauseNumber) → clause_number_in s ≡ r → clause_number_in s ≡ NotANumber
-    by_answer (Value z) e = absurd (none z (digits-clause_number_in s z e).1 (digits-clause_number_in s z e).0)
-    by_answer NotANumber e = e
+    by_answer : (r : Option ℤ) → clause_number_in s ≡ r → clause_number_in s ≡ None
+    by_answer (Some z) e = absurd (none z (digits-clause_number_in s z e).1 (digits-clause_number_in s z e).0)
+    by_answer None e = e
 
 -- What a reader finds in a text, from the left: the tests by which it is no clause number, and its number.
 
 -- an empty text
-pub clause_number_in-empty : (s : List ℕ) → length s ≡ 0 → clause_number_in s ≡ NotANumber
+pub clause_number_in-empty : (s : List ℕ) → length s ≡ 0 → clause_number_in s ≡ None
 unfolding signed_digits
 clause_number_in-empty s l = clause_number_in-other s by_sign
   where
@@ -89,7 +86,7 @@ module _ (s : List ℕ) (some : 0 < length s) (sign : get_or s 0 0 ≡ minus_sig
       at (c ∷ t) l e = rw (take_all (suc (length t) - 1) t (omega arith), e)
 
   -- only the digits of a number that is not 0 make a clause number
-  pub clause_number_in-minus-other : ((x : ℕ) → 1 ≤ x → x < 2 ^ 31 → number_in behind ≡ number.Value x → ⊥) → clause_number_in s ≡ NotANumber
+  pub clause_number_in-minus-other : ((x : ℕ) → 1 ≤ x → x < 2 ^ 31 → number_in behind ≡ Some x → ⊥) → clause_number_in s ≡ None
   unfolding signed_digits
   clause_number_in-minus-other none = clause_number_in-other s by_sign
     where
@@ -99,7 +96,7 @@ module _ (s : List ℕ) (some : 0 < length s) (sign : get_or s 0 0 ≡ minus_sig
           let same : behind ≡ digits (suc x) = ap (drop 1) (sym behind-minus ∙ e) in
           none (suc x) (omega arith) h (ap number_in same ∙ number_in-digits (suc x) (omega arith))
 
-  pub clause_number_in-minus : (x : ℕ) → number_in behind ≡ number.Value x → 1 ≤ x → x < 2 ^ 31 → clause_number_in s ≡ Value (neg_ℤ (pos x))
+  pub clause_number_in-minus : (x : ℕ) → number_in behind ≡ Some x → 1 ≤ x → x < 2 ^ 31 → clause_number_in s ≡ Some (neg_ℤ (pos x))
   unfolding signed_digits
   clause_number_in-minus zero e l h = absurd (omega arith)
   clause_number_in-minus (suc x) e l h =
@@ -108,7 +105,7 @@ module _ (s : List ℕ) (some : 0 < length s) (sign : get_or s 0 0 ≡ minus_sig
 
 -- a text with none
 pub clause_number_in-unsigned-other : (s : List ℕ) → (get_or s 0 0 ≡ minus_sign → ⊥)
-    → ((x : ℕ) → x < 2 ^ 31 → number_in s ≡ number.Value x → ⊥) → clause_number_in s ≡ NotANumber
+    → ((x : ℕ) → x < 2 ^ 31 → number_in s ≡ Some x → ⊥) → clause_number_in s ≡ None
 unfolding signed_digits
 clause_number_in-unsigned-other s sign none = clause_number_in-other s by_sign
   where
@@ -116,16 +113,13 @@ clause_number_in-unsigned-other s sign none = clause_number_in-other s by_sign
     by_sign (pos x) h e = none x h (ap number_in e ∙ number_in-digits x (omega arith))
     by_sign (negsuc x) h e = sign (ap (λ (t : List ℕ). get_or t 0 0) e)
 
-pub clause_number_in-unsigned : (s : List ℕ) (x : ℕ) → number_in s ≡ number.Value x → x < 2 ^ 31 → clause_number_in s ≡ Value (pos x)
+pub clause_number_in-unsigned : (s : List ℕ) (x : ℕ) → number_in s ≡ Some x → x < 2 ^ 31 → clause_number_in s ≡ Some (pos x)
 unfolding signed_digits
 clause_number_in-unsigned s x e h = ap clause_number_in (digits-number_in s x e).0 ∙ clause_number_in-digits (pos x) h
 
 -- a number is read as one number
-pub value-unique : {r : Number} {x y : ℕ} → r ≡ number.Value x → r ≡ number.Value y → x ≡ y
+pub value-unique : {r : Option ℕ} {x y : ℕ} → r ≡ Some x → r ≡ Some y → x ≡ y
 value-unique p q = cc
-
-pub value_none : {r : Number} {x : ℕ} → r ≡ number.NotANumber → r ≡ number.Value x → ⊥
-value_none p q = let z : ◌≡◌ {A = ℕ} 0 1 = cc in omega arith
 
 -- the machine's number of 31 bits, and its 0 less that
 pub unsigned_is : (x : ℕ) → x < 2 ^ 31 → to_z w32 x ≡ pos x

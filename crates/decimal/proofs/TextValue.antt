@@ -6,17 +6,15 @@ use mathlib.Core.Bool.{Bool, true, false, cond, ◌&&◌, true≢false, false≢
 use mathlib.Core.List.{List, [], ◌∷◌, ◌++◌, append_assoc, append-nil}
 use native.Mathlib.Omega.{arith}
 use lib.Dec.{eqb, ltb, leb}
-use native.Mathlib.Nat.{pow-le-pow_right}
 use native.Mathlib.Numerals.{add-one}
 use lib.ListN.{length, get_or, drop, drop_of_length-le, get_or-append}
 use lib.Seq.{drop-cons}
 use borrow.Author.Tests.{lt-ltb, ltb-true, le-leb, lt-leb, leb-true, eq-eqb, eqb-true}
+use Rattle.std.specs.Prelude.{Option, Some, None}
 use Rattle.model.proofs.Booleans.{and-true}
 use Rattle.decimal.specs.Digits.{digit, digits}
 use Rattle.decimal.specs.TextValue.{same_text, value_after, number_in}
-use Rattle.decimal.specs.declared.Number.{Number}
-use Rattle.decimal.specs.declared.Number.TheVariants.{Value, NotANumber}
-use Rattle.decimal.proofs.Digits.{digits-single, digits-snoc, digits-behind, by-tenths, length-digits-some, length-digits-ten}
+use Rattle.decimal.proofs.Digits.{digits-single, digits-snoc, digits-behind, by-tenths, length-digits-some}
 
 -- the computed equality of texts
 pub same_text-refl : (s : List ℕ) → same_text s s ≡ true
@@ -143,19 +141,19 @@ digits_value (c ∷ s) n h z = first s ((and-true (is_digit c) (all_digits s)).0
         digits-value_after (0 * 10 + (c - 48)) (b ∷ t) (omega arith) a ∙ rw single
 
 -- what is written reads back as the same number
-pub number_in-digits : (x : ℕ) → x < 2 ^ 32 → number_in (digits x) ≡ Value x
+pub number_in-digits : (x : ℕ) → x < 2 ^ 32 → number_in (digits x) ≡ Some x
 unfolding number_in
 number_in-digits x h = rw (value_after-digits x, same_text-refl, lt-ltb x (2 ^ 32) h)
 
 -- what is read is the text of its number
-pub digits-number_in : (s : List ℕ) (x : ℕ) → number_in s ≡ Value x → (s ≡ digits x) × (x < 2 ^ 32)
+pub digits-number_in : (s : List ℕ) (x : ℕ) → number_in s ≡ Some x → (s ≡ digits x) × (x < 2 ^ 32)
 unfolding number_in
 digits-number_in s x h =
     by-test (same_text s (digits (value_after 0 s))) (ltb (value_after 0 s) (2 ^ 32)) refl refl h
   where
     by-test :
         (a b : Bool) → same_text s (digits (value_after 0 s)) ≡ a → ltb (value_after 0 s) (2 ^ 32) ≡ b →
-        cond (a && b) (Value (value_after 0 s)) NotANumber ≡ Value x → (s ≡ digits x) × (x < 2 ^ 32)
+        cond (a && b) (Some (value_after 0 s)) None ≡ Some x → (s ≡ digits x) × (x < 2 ^ 32)
     by-test true true p q h =
         let e : value_after 0 s ≡ x = cc in
         (same_text-true s (digits (value_after 0 s)) p ∙ ap digits e, omega (arith, ltb-true (value_after 0 s) (2 ^ 32) q))
@@ -163,42 +161,38 @@ digits-number_in s x h =
     by-test false b p q h = let z : ◌≡◌ {A = ℕ} 0 1 = cc in absurd (omega arith)
 
 -- a text that is no number's is read as none
-number_in-other : (s : List ℕ) → ((x : ℕ) → x < 2 ^ 32 → s ≡ digits x → ⊥) → number_in s ≡ NotANumber
+pub number_in-other : (s : List ℕ) → ((x : ℕ) → x < 2 ^ 32 → s ≡ digits x → ⊥) → number_in s ≡ None
 number_in-other s none = by_answer (number_in s) refl
   where
-    by_answer : (r : Number) → number_in s ≡ r → number_in s ≡ NotANumber
-    by_answer (Value x) e = absurd (none x (digits-number_in s x e).1 (digits-number_in s x e).0)
-    by_answer NotANumber e = e
+    by_answer : (r : Option ℕ) → number_in s ≡ r → number_in s ≡ None
+    by_answer (Some x) e = absurd (none x (digits-number_in s x e).1 (digits-number_in s x e).0)
+    by_answer None e = e
 
 -- What a reader finds in a text, from the left: the tests by which it is no number, and its number.
 
--- a text that is too long
-pub number_in-long : (s : List ℕ) → 10 < length s → number_in s ≡ NotANumber
-number_in-long s l = number_in-other s (λ x h e. omega (arith, length-digits-ten x h, ap length e))
-
 -- an empty text
-pub number_in-empty : (s : List ℕ) → length s ≡ 0 → number_in s ≡ NotANumber
+pub number_in-empty : (s : List ℕ) → length s ≡ 0 → number_in s ≡ None
 number_in-empty s l = number_in-other s (λ x h e. omega (arith, length-digits-some x, ap length e))
 
 -- a zero before other bytes
-pub number_in-zero : (s : List ℕ) → 1 < length s → get_or s 0 0 ≡ 48 → number_in s ≡ NotANumber
+pub number_in-zero : (s : List ℕ) → 1 < length s → get_or s 0 0 ≡ 48 → number_in s ≡ None
 number_in-zero s l z =
     number_in-other s (λ x h e. omega (arith, no-leading-zero x (sym (ap (λ (t : List ℕ). get_or t 0 0) e) ∙ z), ap length e))
 
 -- a byte that is no digit
-pub number_in-no-digit : (s : List ℕ) → all_digits s ≡ false → number_in s ≡ NotANumber
+pub number_in-no-digit : (s : List ℕ) → all_digits s ≡ false → number_in s ≡ None
 number_in-no-digit s n =
     number_in-other s (λ x h e. true≢false (sym (all_digits-digits x) ∙ sym (ap all_digits e) ∙ n))
 
 -- a value above the greatest
-pub number_in-above : (s : List ℕ) → 2 ^ 32 ≤ value_after 0 s → number_in s ≡ NotANumber
+pub number_in-above : (s : List ℕ) → 2 ^ 32 ≤ value_after 0 s → number_in s ≡ None
 number_in-above s l =
     number_in-other s (λ x h e. omega (arith, ap (value_after 0) e, value_after-digits x))
 
 -- digits with no leading zero, of a value that fits
 pub number_in-value :
     (s : List ℕ) → 0 < length s → all_digits s ≡ true → (1 < length s → get_or s 0 0 ≡ 48 → ⊥) → value_after 0 s < 2 ^ 32 →
-    number_in s ≡ Value (value_after 0 s)
+    number_in s ≡ Some (value_after 0 s)
 number_in-value s n h z l =
     ap number_in (sym (digits_value s n h z)) ∙ number_in-digits (value_after 0 s) l
 
@@ -223,18 +217,14 @@ unfolding all_digits
 all_digits-end s i h = rw (drop_of_length-le s h)
 
 -- a byte outside '0' to '9' is no digit, one inside is
-pub is_digit-below : (c : ℕ) → c < 48 → is_digit c ≡ false
+pub is_digit-outside : (c : ℕ) → (48 ≤ c → 57 < c) → is_digit c ≡ false
 unfolding is_digit
-is_digit-below c h = rw (lt-leb 48 c h)
-
-pub is_digit-above : (c : ℕ) → 57 < c → is_digit c ≡ false
-unfolding is_digit
-is_digit-above c h = rw (le-leb 48 c (omega arith), lt-leb c 57 h)
+is_digit-outside c h = by-test (leb 48 c) refl
+  where
+    by-test : (b : Bool) → leb 48 c ≡ b → (b && leb c 57) ≡ false
+    by-test true e = lt-leb c 57 (h (leb-true 48 c e))
+    by-test false e = refl
 
 pub is_digit-inside : (c : ℕ) → 48 ≤ c → c ≤ 57 → is_digit c ≡ true
 unfolding is_digit
 is_digit-inside c l u = rw (le-leb 48 c l, le-leb c 57 u)
-
--- a value of at most ten digits is below 10^10
-pub ten-digits : (i v : ℕ) → i ≤ 10 → v < 10 ^ i → v < 10 ^ 10
-ten-digits i v h l = omega (arith, pow-le-pow_right {n = 10} (omega arith) h)

@@ -41,12 +41,6 @@ ending_at-write i d text out some h =
     ∙ ap (λ (s : List ℕ). start ++ s) (sym (append_snoc text d (drop i out))) ∙ sym (append_assoc start (text ++ d ∷ []) (drop i out)))
 
 module _ {text old mid : List ℕ} {r : ℕ} (f : WroteAtEnd text old mid r) where
-  -- a text as long as the slice is all of it
-  pub filled-all : length text ≡ length old → mid ≡ text
-  filled-all long =
-      let none : length old - length text ≡ 0 = omega (arith, long) in
-      f.leaves ∙ rw none
-
   -- one byte more, before the text
   pub filled-before : (a : ℕ) → r < length old → WroteAtEnd (a ∷ text) old (set mid (length mid - r - 1) a) (r + 1)
   filled-before a h =

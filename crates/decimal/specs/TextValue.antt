@@ -1,9 +1,7 @@
 -- The number that a text stands for: reading as the inverse of `digits`. Cited by `read_number` and by
 -- sheet_fields/specs/Fields.
-use Rattle.std.specs.Prelude.{ℕ, ◌+◌, ◌-◌, ◌*◌, ◌^◌, Bool, true, false, cond, ◌&&◌, List, [], ◌∷◌, eqb, ltb}
+use Rattle.std.specs.Prelude.{ℕ, ◌+◌, ◌-◌, ◌*◌, ◌^◌, Bool, true, false, cond, ◌&&◌, Option, Some, None, List, [], ◌∷◌, eqb, ltb}
 use Rattle.decimal.specs.Digits.{digits}
-use Rattle.decimal.specs.declared.Number.{Number}
-use Rattle.decimal.specs.declared.Number.TheVariants.{Value, NotANumber}
 
 -- whether two texts are the same
 unfoldable pub same_text : List ℕ → List ℕ → Bool
@@ -18,6 +16,6 @@ value_after v [] = v
 value_after v (c ∷ s) = value_after (v * 10 + (c - 48)) s
 
 -- RULES S2: "at most 4,294,967,295"; the number whose digits the text is. Its value is the only number whose digits it can be
-unfoldable pub number_in : List ℕ → Number
+unfoldable pub number_in : List ℕ → Option ℕ
 number_in s =
-    cond (same_text s (digits (value_after 0 s)) && ltb (value_after 0 s) (2 ^ 32)) (Value (value_after 0 s)) NotANumber
+    cond (same_text s (digits (value_after 0 s)) && ltb (value_after 0 s) (2 ^ 32)) (Some (value_after 0 s)) None

@@ -8,81 +8,50 @@ ghost use Rattle.decimal.specs.TextValue.{number_in};
 ghost use Rattle.decimal.specs.SignedValue.{clause_number_in};
 ghost use Rattle.model.specs.Wrote.{Wrote};
 
-// What a text is read as. A number is at most 4,294,967,295.
-#[derive(Clone, Copy)]
-pub enum Number {
-    Value(u32),
-    NotANumber,
-}
-
-// The number that the whole text stands for. Ten digits are the most, so the value fits.
-pub fn read_number(text: &[u8]) -> Number
+// The number that the whole text stands for, at most 4,294,967,295. Ten digits are the most, so the value fits.
+pub fn read_number(text: &[u8]) -> Option<u32>
     ensures { result ≡ number_in text.now }
 {
-    if text.len() == 0 {
-        return Number::NotANumber;
+    if text.len() == 0 || 10 < text.len() {
+        return None;
     }
-    if 10 < text.len() {
-        return Number::NotANumber;
-    }
-    if text[0] == b'0' {
-        if 1 < text.len() {
-            return Number::NotANumber;
-        }
+    if text[0] == b'0' && 1 < text.len() {
+        return None;
     }
     let mut value: u64 = 0;
-    let mut i = 0;
-    while i < text.len() {
-        let c = text[i];
-        if c < b'0' {
-            return Number::NotANumber;
-        }
-        if b'9' < c {
-            return Number::NotANumber;
+    for &c in text {
+        if c < b'0' || b'9' < c {
+            return None;
         }
         value = value * 10 + ((c - b'0') as u64);
-        i += 1;
     }
     if 4294967295 < value {
-        return Number::NotANumber;
+        return None;
     }
-    Number::Value(value as u32)
+    Some(value as u32)
 }
 
-// What a word is read as where clause numbers stand. The 0 that ends a clause is one here.
-#[derive(Clone, Copy)]
-pub enum ClauseNumber {
-    Value(i32),
-    NotANumber,
-}
-
-// The clause number, or 0, that the whole text stands for: digits, or those of a number above 0 behind one minus.
-pub fn read_clause_number(text: &[u8]) -> ClauseNumber
+// The clause number that the whole text stands for: digits, or those of a number above 0 behind one minus. The 0 that ends a clause is
+// one here.
+pub fn read_clause_number(text: &[u8]) -> Option<i32>
     ensures { result ≡ clause_number_in text.now }
 {
     if text.len() == 0 {
-        return ClauseNumber::NotANumber;
+        return None;
     }
     if text[0] == b'-' {
-        let Number::Value(x) = read_number(&text[1..]) else {
-            return ClauseNumber::NotANumber;
-        };
-        if x == 0 {
-            return ClauseNumber::NotANumber;
-        }
-        if 2147483647 < x {
-            return ClauseNumber::NotANumber;
+        let x = read_number(&text[1..])?;
+        if x == 0 || 2147483647 < x {
+            return None;
         }
         let z = x as i32;
-        return ClauseNumber::Value(-z);
+        return Some(-z);
     }
-    let Number::Value(x) = read_number(text) else {
-        return ClauseNumber::NotANumber;
-    };
+    let x = read_number(text)?;
     if 2147483647 < x {
-        return ClauseNumber::NotANumber;
+        return None;
     }
-    ClauseNumber::Value(x as i32)
+    Some(x as i32)
 }
 
 // How many digits a number has.
@@ -129,11 +98,7 @@ fn put_spaces(out: &mut [u8], count: usize)
     requires { count ≤ length out.old }
     ensures { Wrote (replicate count space) out.old out.new count }
 {
-    let mut i = 0;
-    while i < count {
-        out[i] = b' ';
-        i += 1;
-    }
+    out[..count].fill(b' ');
 }
 
 // Writes a number in ten columns, right-justified behind spaces, and answers ten.

@@ -1,16 +1,13 @@
 -- Laws of specs/Signed.antt: a signed number written by its parts. No contract cites this file.
 use Prim.Native.Nat.{ℕ, suc, ◌+◌, ◌-◌, ◌<◌}
 use mathlib.Core.Path.{◌≡◌, refl, sym, ap, ◌∙◌}
-use mathlib.Core.Bool.{true, false, true≢false}
 use mathlib.Core.List.{List, [], ◌∷◌, ◌++◌, append_assoc}
 use native.Mathlib.Nat.{zero-add, add-zero}
 use native.Mathlib.Omega.{arith}
-use borrow.Author.Tests.{ltb-true, le-leb}
 use borrow.Rule.Slice.PartMut.{mid_of, put_mid}
-use lib.IntN.{ℤ, pos, negsuc, nat_abs}
+use lib.IntN.{ℤ, pos, negsuc}
 use lib.ListN.{length, length-append, set}
 use lib.Seq.{drop-set-lt}
-use lib.Signed.{lt_z, le_z}
 use Rattle.decimal.specs.Digits.{minus_sign, digits, signed_digits}
 use Rattle.model.specs.Wrote.{Wrote}
 use Rattle.decimal.proofs.Digits.{length-digits-some}
@@ -18,24 +15,6 @@ use Rattle.model.proofs.Wrote.{wrote_then}
 use Rattle.text_writer.specs.Signed.{parts_of}
 use Rattle.text_writer.specs.Extends.{Extends}
 use Rattle.text_writer.proofs.Writing.{wrote-set, wrote-next}
-
--- below zero is not at least zero, and the other way round
-pub below-not-least : (z : ℤ) → lt_z z (pos 0) ≡ true → le_z (pos 0) z ≡ false
-below-not-least (pos n) h = absurd (omega (arith, ltb-true n 0 h))
-below-not-least (negsuc n) h = refl
-
-pub not-below-least : (z : ℤ) → lt_z z (pos 0) ≡ false → le_z (pos 0) z ≡ true
-not-below-least (pos n) h = le-leb 0 n (omega arith)
-not-below-least (negsuc n) h = absurd (true≢false h)
-
--- the parts of a number below zero, and of any other
-pub parts_of-below : (z : ℤ) → lt_z z (pos 0) ≡ true → parts_of z ≡ record { sign = 1; value = nat_abs z }
-parts_of-below (pos n) h = absurd (omega (arith, ltb-true n 0 h))
-parts_of-below (negsuc n) h = refl
-
-pub parts_of-not-below : (z : ℤ) → lt_z z (pos 0) ≡ false → parts_of z ≡ record { sign = 0; value = nat_abs z }
-parts_of-not-below (pos n) h = refl
-parts_of-not-below (negsuc n) h = absurd (true≢false h)
 
 -- the parts' lengths make the whole
 pub length-parts : (z : ℤ) → length (signed_digits z) ≡ (parts_of z).sign + length (digits (parts_of z).value)

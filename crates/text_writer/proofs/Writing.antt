@@ -1,13 +1,11 @@
--- Laws of `Wrote` and `Extends`: two bytes, three, four, a word copied byte by byte, room for a second writer behind a first, and bytes set
+-- Laws of `Wrote` and `Extends`: two bytes, three, four, room for a second writer behind a first, and bytes set
 -- behind what is written. No contract cites this file.
-use Prim.Native.Nat.{ℕ, suc, ◌+◌, ◌-◌, ◌≤◌, ◌<◌}
+use Prim.Native.Nat.{ℕ, ◌+◌, ◌-◌, ◌≤◌, ◌<◌}
 use mathlib.Core.Path.{◌≡◌, refl, ap}
 use mathlib.Core.List.{List, [], ◌∷◌, ◌++◌, append_assoc}
-use native.Mathlib.Nat.{zero-add}
 use native.Mathlib.Omega.{arith}
 use borrow.Rule.Slice.PartMut.{mid_of}
-use lib.ListN.{length, length-append, length-drop, length-set, get_or, take, drop, set}
-use lib.Seq.{paste-suc}
+use lib.ListN.{length, length-append, length-drop, length-set, drop, set}
 use Rattle.model.specs.Wrote.{Wrote}
 use Rattle.model.proofs.Wrote.{rest-within, rest-room}
 use Rattle.text_writer.specs.Extends.{Extends}
@@ -33,14 +31,6 @@ wrote-four a b c d (x ∷ []) h = absurd (omega arith)
 wrote-four a b c d (x ∷ y ∷ []) h = absurd (omega arith)
 wrote-four a b c d (x ∷ y ∷ z ∷ []) h = absurd (omega arith)
 wrote-four a b c d (x ∷ y ∷ z ∷ w ∷ old) h = record { counted = refl; leaves = refl }
-
--- a word copied from the front, one byte more
-pub copy-next :
-    (word old : List ℕ) (i : ℕ) → i < length word → i < length old →
-    set (take i word ++ drop i old) i (get_or word i 0) ≡ take (suc i) word ++ drop (suc i) old
-copy-next word old i h l =
-    let room : 0 + i < length old = omega arith in
-    simp zero-add at (paste-suc old 0 word i 0 room h)
 
 -- a text's part at the front has room where the text has
 pub front-room : {A : Type 0} (a b : List A) (room : ℕ) → length (a ++ b) ≤ room → length a ≤ room

@@ -25,12 +25,9 @@ pub fn write_word(out: &mut [u8], word: &[u8]) -> usize
     requires { length word.now ≤ length out.old }
     ensures { Wrote word.now out.old out.new result }
 {
-    let mut i = 0;
-    while i < word.len() {
-        out[i] = word[i];
-        i += 1;
-    }
-    i
+    let count = word.len();
+    out[..count].copy_from_slice(word);
+    count
 }
 
 // How many ten thousands a number below 1,500,000 has. Below that bound one product and one shift do: less than a compiler, which
@@ -67,10 +64,8 @@ pub fn fill_table(table: &mut [u8]) -> usize
     ensures { Wrote (table_below 10000) table.old table.new result }
 {
     let mut at: usize = 0;
-    let mut x: u32 = 0;
-    while x < 10000 {
-        at = at + put_four_digits(&mut table[at..], x);
-        x = x + 1;
+    for x in 0..10000 {
+        at += put_four_digits(&mut table[at..], x);
     }
     at
 }
@@ -214,20 +209,13 @@ pub struct Parts {
     pub value: u32,
 }
 
-// The parts of a signed number. The least has its opposite in 64 bits.
+// The parts of a signed number.
 pub fn parts_of(z: i32) -> Parts
     ensures { result ≡ parts_of z }
 {
-    if z < 0 {
-        let opposite = -(z as i64);
-        return Parts {
-            sign: 1,
-            value: opposite as u32,
-        };
-    }
     Parts {
-        sign: 0,
-        value: z as u32,
+        sign: usize::from(z < 0),
+        value: z.unsigned_abs(),
     }
 }
 

@@ -9,9 +9,6 @@ use Rattle.decimal.proofs.digit_count.Goals as goal
 pub loop-power-init : goal.loop-power-init
 loop-power-init c = omega (arith, length-digits-some c.args.x)
 
-pub overflow_mul-power : goal.overflow_mul-power
-overflow_mul-power c = omega arith
-
 pub overflow_add-count : goal.overflow_add-count
 overflow_add-count c = omega (arith, length-digits-ten c.args.x c.ranges.x.fits)
 

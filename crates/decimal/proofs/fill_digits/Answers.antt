@@ -2,32 +2,20 @@
 -- everything else as it is, are the digits of x at the end of what was there.
 
 use Prim.Native.Nat.{ℕ, ◌+◌, ◌-◌, ◌/◌, ◌%◌}
-use mathlib.Core.Path.{◌≡◌, refl, sym, ap, ◌∙◌}
+use mathlib.Core.Path.{◌≡◌, sym, ap, ◌∙◌}
 use mathlib.Core.List.{List, [], ◌∷◌, ◌++◌}
 use native.Mathlib.Omega.{arith}
 use lib.ListN.{length, length-append, set, length-set}
 use Rattle.decimal.specs.Digits.{digit, digits}
 use Rattle.decimal.proofs.Digits.{digits-single, digits-snoc, length-digits-some}
-use Rattle.decimal.proofs.WroteAtEnd.{ending_at, ending_at-end, ending_at-nothing, ending_at-write}
+use Rattle.decimal.proofs.WroteAtEnd.{ending_at, ending_at-nothing, ending_at-write}
 use Rattle.decimal.proofs.fill_digits.Goals as goal
-
-pub loop-rest-init : goal.loop-rest-init
-loop-rest-init c = (omega arith, refl, c.requires, refl, ending_at-end (digits c.args.x) c.args.out.now)
 
 pub overflow_sub-at : goal.overflow_sub-at
 overflow_sub-at c = omega (arith, length-digits-some c.loop-rest.rest)
 
-pub overflow_cast-out : goal.overflow_cast-out
-overflow_cast-out c = omega arith
-
-pub overflow_add-out : goal.overflow_add-out
-overflow_add-out c = omega arith
-
 pub bounds-out-at : goal.bounds-out-at
 bounds-out-at c = omega (arith, length-digits-some c.loop-rest.rest)
-
-pub loop-rest-smaller : goal.loop-rest-smaller
-loop-rest-smaller c = omega arith
 
 pub loop-rest-preserved : goal.loop-rest-preserved
 loop-rest-preserved c =
@@ -45,17 +33,8 @@ loop-rest-preserved c =
 pub overflow_sub-at-2 : goal.overflow_sub-at-2
 overflow_sub-at-2 c = omega (arith, length-digits-some c.loop-rest.rest)
 
-pub overflow_cast-out-2 : goal.overflow_cast-out-2
-overflow_cast-out-2 c = omega arith
-
-pub overflow_add-out-2 : goal.overflow_add-out-2
-overflow_add-out-2 c = omega arith
-
 pub bounds-out-at-2 : goal.bounds-out-at-2
 bounds-out-at-2 c = omega (arith, length-digits-some c.loop-rest.rest)
-
-pub overflow_sub-result : goal.overflow_sub-result
-overflow_sub-result c = simp length-set (omega arith)
 
 pub returns : goal.returns
 returns c =

@@ -1,7 +1,6 @@
 -- `text_writer::write_four` meets its contract: the four bytes come from the table.
 
 use native.Mathlib.Omega.{arith}
-use lib.ListN.{length-set}
 use Rattle.text_writer.proofs.Table.{length-table, wrote-four-by}
 use Rattle.text_writer.proofs.write_four.Goals as goal
 
@@ -20,12 +19,6 @@ bounds-table-i-3 c =
 pub bounds-table-i-4 : goal.bounds-table-i-4
 bounds-table-i-4 c =
     omega (arith, length-table c.args.table.now c.requires.0)
-
-pub bounds-out-1 : goal.bounds-out-1
-bounds-out-1 c = simp length-set (omega arith)
-
-pub bounds-out-2 : goal.bounds-out-2
-bounds-out-2 c = simp length-set (omega arith)
 
 pub returns : goal.returns
 returns c =

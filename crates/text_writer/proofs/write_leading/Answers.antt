@@ -30,6 +30,3 @@ returns-then-x-lt100 c =
 pub write_three-requires : goal.write_three-requires
 write_three-requires c =
     (c.requires.0, omega arith, omega arith, omega (arith, ap length (digits-three c.args.x (omega arith) (omega arith))))
-
-pub returns : goal.returns
-returns c = c.write_three.ensures

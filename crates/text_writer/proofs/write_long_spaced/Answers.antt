@@ -10,7 +10,7 @@ use Rattle.model.specs.Wrote.{Wrote}
 use Rattle.model.proofs.Wrote.{wrote_then}
 use Rattle.text_writer.specs.Table.{four_digits}
 use Rattle.text_writer.proofs.Table.{digits-behind-four}
-use Rattle.text_writer.proofs.Writing.{front-room, behind-within, behind-room}
+use Rattle.text_writer.proofs.Writing.{front-room, behind-room}
 use Rattle.text_writer.proofs.write_long_spaced.Goals as goal
 use Rattle.text_writer.proofs.write_long_spaced.Goals.{After-write_leading-first, Start}
 
@@ -33,13 +33,6 @@ pub write_leading-first-requires : goal.write_leading-first-requires
 write_leading-first-requires c =
     (c.requires.0, omega arith, rw c.ten_thousands-high.ensures (front-room (leading (goal.at.write_leading-first-requires c).Start) (others (goal.at.write_leading-first-requires c).Start) _ (room (goal.at.write_leading-first-requires c).Start)))
 
-pub slice_bounds-write_four_spaced-count : goal.slice_bounds-write_four_spaced-count
-slice_bounds-write_four_spaced-count c =
-    behind-within (leading (goal.at.slice_bounds-write_four_spaced-count c).Start) (others (goal.at.slice_bounds-write_four_spaced-count c).Start) c.args.out.now c.write_leading-first.new.out c.write_leading-first.result (first (goal.at.slice_bounds-write_four_spaced-count c).After-write_leading-first) (room (goal.at.slice_bounds-write_four_spaced-count c).Start)
-
-pub slice_bounds-write_four_spaced-start : goal.slice_bounds-write_four_spaced-start
-slice_bounds-write_four_spaced-start c = omega (arith, slice_bounds-write_four_spaced-count c)
-
 pub write_four_spaced-requires : goal.write_four_spaced-requires
 write_four_spaced-requires c =
     (c.requires.0, omega arith, behind-room (leading (goal.at.write_four_spaced-requires c).Start) (others (goal.at.write_four_spaced-requires c).Start) c.args.out.now c.write_leading-first.new.out c.write_leading-first.result (first (goal.at.write_four_spaced-requires c).After-write_leading-first) (room (goal.at.write_four_spaced-requires c).Start))
@@ -51,6 +44,3 @@ returns c =
     rw (digits-behind-four x (space ∷ []) c.requires.1)
     (wrote_then (leading (goal.at.returns c).Start) (others (goal.at.returns c).Start) c.args.out.now c.write_leading-first.new.out c.write_four_spaced.new.out c.write_leading-first.result c.write_four_spaced.result
     (first (goal.at.returns c).After-write_leading-first) (rw low at c.write_four_spaced.ensures))
-
-pub overflow_add-result : goal.overflow_add-result
-overflow_add-result c = omega (arith, (returns c).counted, c.requires.3)

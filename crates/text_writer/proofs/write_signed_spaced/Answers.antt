@@ -1,10 +1,10 @@
 -- `text_writer::write_signed_spaced` meets its contract: a minus, and then the digits, behind it or over it.
 
-use Prim.Native.Nat.{ℕ, ◌+◌, ◌-◌, ◌≤◌}
+use Prim.Native.Nat.{ℕ, ◌+◌, ◌≤◌}
 use mathlib.Core.Path.{◌≡◌, ap, ◌∙◌}
 use mathlib.Core.List.{List, [], ◌∷◌, ◌++◌}
 use native.Mathlib.Omega.{arith}
-use borrow.Rule.Slice.PartMut.{mid_len, same_len_mid}
+use borrow.Rule.Slice.PartMut.{mid_len}
 use lib.IntN.{ℤ}
 use lib.ListN.{length, length-append, set, length-set}
 use Rattle.decimal.specs.Digits.{digits, space, minus_sign, signed_digits}
@@ -27,33 +27,13 @@ room c =
     rw (parts_are c, length-append (digits (parts_of z).value) (space ∷ []))
     (omega (arith, c.requires.1, length-parts z, length-append (signed_digits z) (space ∷ [])))
 
-pub overflow_add-first : goal.overflow_add-first
-overflow_add-first c = omega (arith, room c)
-
 pub bounds-out-at : goal.bounds-out-at
 bounds-out-at c = omega (arith, room c, length-append (digits c.parts_of-parts.result.value) (space ∷ []))
-
-pub slice_bounds-write_spaced-count : goal.slice_bounds-write_spaced-count
-slice_bounds-write_spaced-count c = simp length-set (omega (arith, room c))
-
-pub slice_bounds-write_spaced-start : goal.slice_bounds-write_spaced-start
-slice_bounds-write_spaced-start c = simp length-set (omega (arith, room c))
 
 pub write_spaced-requires : goal.write_spaced-requires
 write_spaced-requires c =
     let signed : List ℕ = set c.args.out.now c.args.at minus_sign in
     (c.requires.0, rw (mid_len (c.args.at + c.parts_of-parts.result.sign) (length signed) signed (omega arith), length-set) (omega (arith, room (goal.at.write_spaced-requires c).After-parts_of-parts)))
-
-pub overflow_add-result : goal.overflow_add-result
-overflow_add-result c =
-    omega (arith, room (goal.at.overflow_add-result c).After-parts_of-parts, c.write_spaced.ensures.counted)
-
-pub shape_of-out : goal.shape_of-out
-shape_of-out c =
-    let old : List ℕ = c.args.out.now in
-    let signed : List ℕ = set old c.args.at minus_sign in
-    let first : ℕ = c.args.at + c.parts_of-parts.result.sign in
-    same_len_mid first (length signed - first) signed c.write_spaced.new.out c.write_spaced.auto.out ∙ length-set old c.args.at minus_sign
 
 pub returns : goal.returns
 returns c =

@@ -1,7 +1,6 @@
 -- `text_writer::write_three` meets its contract: the three bytes come from the table.
 
 use native.Mathlib.Omega.{arith}
-use lib.ListN.{length-set}
 use Rattle.text_writer.proofs.Table.{length-table, wrote-three-by}
 use Rattle.text_writer.proofs.write_three.Goals as goal
 
@@ -16,9 +15,6 @@ bounds-table-i-2 c =
 pub bounds-table-i-3 : goal.bounds-table-i-3
 bounds-table-i-3 c =
     omega (arith, length-table c.args.table.now c.requires.0)
-
-pub bounds-out-1 : goal.bounds-out-1
-bounds-out-1 c = simp length-set (omega arith)
 
 pub returns : goal.returns
 returns c =
