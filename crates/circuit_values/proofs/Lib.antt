@@ -1,2 +1,3 @@
 pub mod WireTable
 pub mod Bits
+pub mod Codes

@@ -4,11 +4,11 @@
 #![tactic(auto)]
 
 ghost use Rattle.std.specs.Prelude.{◌≡◌, ℕ, ◌+◌, ◌/◌, ◌^◌, ◌≤◌, ◌<◌, [], false, cond, eqb, length};
-ghost use Rattle.model.specs.Bits.{bit};
+ghost use Rattle.model.specs.Bits.{bit, from_bits};
 ghost use Rattle.model.specs.Netlist.{IsPort, port, gate_wire, last_wire};
 ghost use Rattle.model.specs.Circuit.{Values, code_value, address_of, word_written, evaluate};
 ghost use Rattle.model.specs.Acceptance.{WithinLimits};
-ghost use Rattle.netlist.specs.NetOf.{net_of, alone};
+ghost use Rattle.netlist.specs.NetOf.{code_of, net_of, alone};
 ghost use Rattle.netlist.specs.WireTable.{entry, HasBelow};
 ghost use Rattle.circuit_values.specs.Gates.{GatesHold};
 
@@ -39,11 +39,7 @@ fn put_sources(values: &mut WireValues, first: usize, sources: &SourceValues, co
     ensures { (v : Values) → HasBelow first v values.old → ((x : ℕ) → x < count → entry sources.now x ≡ v (first + x))
         → HasBelow (first + count) v values.new }
 {
-    let mut x = 0;
-    while x < count {
-        values[first + x] = sources[x];
-        x += 1;
-    }
+    values[first..first + count].copy_from_slice(&sources[..count]);
 }
 
 // Puts the bits of a word at the wires from `first` on.
@@ -52,10 +48,8 @@ fn put_bits(values: &mut WireValues, first: usize, word: u64, count: u32)
     ensures { (v : Values) → HasBelow first v values.old → ((t : ℕ) → t < count → bit word t ≡ v (first + t))
         → HasBelow (first + count) v values.new }
 {
-    let mut t: u32 = 0;
-    while t < count {
+    for t in 0..count {
         values[first + t as usize] = (word >> t) % 2 == 1;
-        t += 1;
     }
 }
 
@@ -66,14 +60,10 @@ fn put_gates(values: &mut WireValues, net: Netlist, gates: &UnpackedList)
         → HasBelow (last_wire (alone net) + 1) v values.new }
 {
     let first = netlist::first_gate_wire(net).index();
-    let mut g = 0;
-    while g < net.gates {
-        let at = 2 * (g as usize);
-        let left = code_value(values, Code(gates[at]));
-        let right = code_value(values, Code(gates[at + 1]));
-        let own = first + g as usize;
-        values[own] = left & right;
-        g += 1;
+    for g in 0..net.gates as usize {
+        let left = code_value(values, Code(gates[2 * g]));
+        let right = code_value(values, Code(gates[2 * g + 1]));
+        values[first + g] = left & right;
     }
 }
 
@@ -128,20 +118,28 @@ pub fn is_reading(values: &WireValues, net: Netlist, port_number: u32) -> bool
     code_value(values, of_port(port_number, net.re, net.re2))
 }
 
+// The number whose bits are the values of codes, by a table of the wires.
+fn number_of(values: &WireValues, codes: &[Code]) -> u32
+    requires { (length codes.now ≤ 32) × ((t : ℕ) → t < length codes.now → code_of codes.now t / 2 ≤ 600) }
+    ensures { result ≡ from_bits (length codes.now) (λ t. code_value (entry values.now) (code_of codes.now t)) }
+{
+    let mut number = 0;
+    for (t, code) in codes.iter().enumerate() {
+        number = with_bit(number, t as u32, code_value(values, *code));
+    }
+    number
+}
+
 // The address at a port, by a table of the wires.
 pub fn address_of(values: &WireValues, net: Netlist, port_number: u32) -> u32
     requires { WithinLimits (alone net) × IsPort (alone net) port_number }
     ensures { result ≡ address_of (alone net) (port (alone net) port_number) (entry values.now) }
 {
-    let mut number = 0;
-    let mut t: u32 = 0;
-    while t < net.m {
-        let at = t as usize;
-        let code = of_port(port_number, net.address[at], net.address2[at]);
-        number = with_bit(number, t, code_value(values, code));
-        t += 1;
+    let m = net.m as usize;
+    if port_number == 1 {
+        return number_of(values, &net.address[..m]);
     }
-    number
+    number_of(values, &net.address2[..m])
 }
 
 // The word that is written where WE is true, by a table of the wires.
@@ -149,12 +147,5 @@ pub fn word_written(values: &WireValues, net: Netlist) -> u32
     requires { WithinLimits (alone net) }
     ensures { result ≡ word_written (alone net) (entry values.now) }
 {
-    let mut number = 0;
-    let mut t: u32 = 0;
-    while t < net.n {
-        let at = t as usize;
-        number = with_bit(number, t, code_value(values, net.write_data[at]));
-        t += 1;
-    }
-    number
+    number_of(values, &net.write_data[..net.n as usize])
 }

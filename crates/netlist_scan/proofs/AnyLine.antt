@@ -1,18 +1,25 @@
 -- What the pass over all lines that looks for no place (specs/AnyLine.antt) says where it finds nothing. Cited by the tests of records.
-use Prim.Native.Nat.{◌<◌}
-use mathlib.Core.Path.{◌≡◌, refl}
-use mathlib.Core.Bool.{Bool, false}
+use Prim.Native.Nat.{ℕ, zero, suc, ◌<◌, ◌≤◌}
+use mathlib.Core.Path.{◌≡◌, refl, ap, ap₂}
+use mathlib.Core.Bool.{Bool, false, ◌||◌}
 use mathlib.Core.Logic.{◌↔◌, by_cases}
 use native.Mathlib.Decide.{dec_lt}
 use native.Mathlib.Omega.{arith}
 use borrow.Author.Tests.{lt-ltb, le-ltb}
+use lib.ListN.{length, take}
+use Rattle.std.specs.Prelude.{List}
+use Rattle.std.proofs.lemmas.List.{get_or-take, length-take-le}
 use Rattle.model.specs.Netlist.{Netlist}
+use Rattle.model.specs.Search.{any_below}
 use Rattle.model.proofs.Search.{none_below}
+use Rattle.literals.specs.declared.Code.{Code}
+use Rattle.netlist.specs.NetOf.{code_of}
+use Rattle.netlist.specs.Faults.{above_limit}
 use Rattle.netlist.specs.declared.Line.{Line}
 use Rattle.netlist.specs.declared.Line.TheVariants.{Sizes, Memory, Latch, Gate, Address, WriteData, SecondAddress, SecondEnable, Control}
 use Rattle.netlist.proofs.Places.{EveryLine}
 use Rattle.netlist.proofs.Faults.{neither, Without}
-use Rattle.netlist_scan.specs.AnyLine.{of_second, any_line}
+use Rattle.netlist_scan.specs.AnyLine.{any_above, of_second, any_line}
 
 -- a condition that does not hold, as it is
 same : (b : Bool) → (b ≡ false) ↔ (b ≡ false)
@@ -45,3 +52,14 @@ none-in-lines c fault sizes memory e =
       of-second-enable = λ some. (q.1.0.1 some).1;
       of-control = q.1.1;
     }
+
+-- whether any of the first codes of a list is above the limit needs these alone
+pub front : (last : ℕ) (codes : List Code) (m : ℕ) → m ≤ length codes
+    → any_above last (code_of (take m codes)) (length (take m codes)) ≡ any_above last (code_of codes) m
+unfolding code_of any_above any_below
+front last codes m fits = rw length-take-le (same-below m (omega arith))
+  where
+    same-below : (k : ℕ) → k ≤ m
+        → any_below k (λ t. above_limit last (code_of (take m codes) t)) ≡ any_below k (λ t. above_limit last (code_of codes t))
+    same-below zero h = refl
+    same-below (suc k) h = ap₂ ◌||◌ (same-below k (omega arith)) (ap (λ x. above_limit last x.0) (get_or-take m codes k (record { 0 = 0 }) (omega arith)))

@@ -2,7 +2,7 @@
 // nearly all pass: each loop runs to its end and looks for no place, so that the compiler can take several codes at a time.
 #![tactic(auto)]
 
-ghost use Rattle.std.specs.Prelude.{◌≡◌, ◌≤◌};
+ghost use Rattle.std.specs.Prelude.{◌≡◌, ◌≤◌, length};
 ghost use Rattle.model.specs.Acceptance.{SizesFit};
 ghost use Rattle.netlist.specs.NetOf.{code_of, net_of, alone};
 ghost use Rattle.netlist.specs.Faults.{code_fault};
@@ -17,11 +17,8 @@ fn any_latch(last: Wire, latches: &UnpackedList, count: u32) -> bool
     ensures { result ≡ any_latch last.0 latches.now count }
 {
     let mut any = false;
-    let mut l = 0;
-    while l < count {
-        let at = 2 * (l as usize);
-        any = any | netlist::latch_fault(last, Code(latches[at]), latches[at + 1]);
-        l += 1;
+    for l in 0..count as usize {
+        any |= netlist::latch_fault(last, Code(latches[2 * l]), latches[2 * l + 1]);
     }
     any
 }
@@ -34,42 +31,20 @@ fn any_gate(first: Wire, gates: &UnpackedList, count: u32) -> bool
 {
     let mut any = false;
     let mut own = first;
-    let mut g = 0;
-    while g < count {
-        let at = 2 * (g as usize);
-        any = any | netlist::gate_fault(own, Code(gates[at]), Code(gates[at + 1]));
+    for g in 0..count as usize {
+        any |= netlist::gate_fault(own, Code(gates[2 * g]), Code(gates[2 * g + 1]));
         own = own.offset(1);
-        g += 1;
     }
     any
 }
 
-// Whether any of a port's m address codes is outside its limit.
-fn any_address(last: Wire, address: [Code; 12], m: u32) -> bool
-    requires { m ≤ 12 }
-    ensures { result ≡ any_above last.0 (code_of address) m }
+// Whether any of some codes is outside its limit.
+fn any_above(last: Wire, codes: &[Code]) -> bool
+    ensures { result ≡ any_above last.0 (code_of codes.now) (length codes.now) }
 {
     let mut any = false;
-    let mut t = 0;
-    while t < m {
-        let at = t as usize;
-        any = any | address[at].is_above(last);
-        t += 1;
-    }
-    any
-}
-
-// Whether any write-data code is outside its limit.
-fn any_data(last: Wire, write_data: [Code; 32], n: u32) -> bool
-    requires { n ≤ 32 }
-    ensures { result ≡ any_above last.0 (code_of write_data) n }
-{
-    let mut any = false;
-    let mut t = 0;
-    while t < n {
-        let at = t as usize;
-        any = any | write_data[at].is_above(last);
-        t += 1;
+    for code in codes {
+        any |= code.is_above(last);
     }
     any
 }
@@ -80,8 +55,7 @@ fn any_in_second(net: Netlist, last: Wire) -> bool
     ensures { result ≡ any_in_second last.0 (alone net) }
 {
     if 0 < net.second_port {
-        let address = net.address2;
-        return any_address(last, address, net.m) | net.re2.is_above(last);
+        return any_above(last, &net.address2[..net.m as usize]) | net.re2.is_above(last);
     }
     false
 }
@@ -91,10 +65,8 @@ fn any_in_record(net: Netlist, last: Wire) -> bool
     requires { SizesFit (alone net) }
     ensures { result ≡ any_in_record last.0 (alone net) }
 {
-    let address = net.address;
-    let codes = net.write_data;
-    any_address(last, address, net.m)
-        | any_data(last, codes, net.n)
+    any_above(last, &net.address[..net.m as usize])
+        | any_above(last, &net.write_data[..net.n as usize])
         | any_in_second(net, last)
         | (net.we.is_above(last) | net.re.is_above(last) | net.p.is_above(last))
 }

@@ -1,11 +1,12 @@
 -- Laws of the test of all lines for a fault (specs/Record.antt): as a loop over the places meets it, and when it passes.
 -- No contract cites this file.
-use Prim.Native.Nat.{ℕ, ◌+◌, ◌≤◌}
-use mathlib.Core.Path.{◌≡◌, sym, ◌∙◌, ap}
+use Prim.Native.Nat.{ℕ, ◌+◌, ◌-◌, ◌≤◌}
+use mathlib.Core.Path.{◌≡◌, sym, ◌∙◌, ap, subst}
 use mathlib.Core.Bool.{Bool, true, false}
 use mathlib.Core.Logic.{◌↔◌}
 use native.Mathlib.Numerals.{add-one}
 use Rattle.refusals.specs.Verdict.{Passed, refuse}
+use native.Mathlib.Omega.{arith}
 use Rattle.refusals.specs.Tests.{in_order}
 use Rattle.refusals.specs.declared.Refusal.{Refusal}
 use Rattle.refusals.proofs.Tests.{refuse_if-passes, in_order-suc, in_order-kept, in_order-passes, in_order-same}
@@ -63,3 +64,20 @@ pub test_lines-same : (c d : Netlist) (r : Refusal) (fault : Netlist → Line �
 unfolding test_lines
 test_lines-same c d r fault same lines e =
     in_order-same (λ p. rw (lines p, same (line_at d p))) (control_line c) ∙ ap (in_order (test_line d r fault)) e
+
+-- the same as a loop from place 1 on meets it, which comes to place p where the lines before it have no fault
+module _ (c : Netlist) (r : Refusal) (fault : Netlist → Line → Bool) (p : ℕ) (counted : 1 ≤ p) (before : PassedTo c r fault (p - 1)) where
+  last : p - 1 + 1 ≡ p
+  last = omega arith
+
+  next : p - 1 + 1 ≡ p + 1 - 1
+  next = omega arith
+
+  pub passed-place : fault c (line_at c p) ≡ false → PassedTo c r fault (p + 1 - 1)
+  passed-place e = subst (PassedTo c r fault) next (passed-next c r fault (p - 1) before (rw last e))
+
+  pub refused-place : fault c (line_at c p) ≡ true → p ≤ control_line c → test_lines c r fault ≡ Refused r p
+  refused-place e l = rw last at (refused-next c r fault (p - 1) before (rw last e) (rw last l))
+
+  pub passed-last : fault c (line_at c p) ≡ false → p ≡ control_line c → test_lines c r fault ≡ Passed
+  passed-last e l = passed-all c r fault (p + 1 - 1) (omega arith) (passed-place e)

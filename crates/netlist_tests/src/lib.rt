@@ -35,10 +35,7 @@ fn first_code_fault(net: Netlist, latches: &UnpackedList, gates: &UnpackedList) 
     requires { SizesFit (alone net) }
     ensures { result ≡ test_lines (net_of net latches.now gates.now) Refusal.CodeOutside code_fault }
 {
-    let last = netlist::control_line(net);
-    let mut place = 0;
-    while place < last {
-        place += 1;
+    for place in 1..=netlist::control_line(net) {
         let line = netlist::line_at(net, place);
         if netlist::code_fault(net, latches, gates, line) {
             return Err(Refused(Refusal::CodeOutside, place));
@@ -66,11 +63,8 @@ fn is_tied(address: [Code; 12], t: u32) -> bool
 {
     let own = address[t as usize].wire_index();
     let mut any = false;
-    let mut s = 0;
-    while s < t {
-        let at = s as usize;
-        any = any | (address[at].wire_index() == own);
-        s += 1;
+    for earlier in &address[..t as usize] {
+        any |= earlier.wire_index() == own;
     }
     (own != 0) & any
 }
@@ -80,12 +74,10 @@ fn first_tie(address: [Code; 12], m: u32) -> u32
     requires { m ≤ 12 }
     ensures { result ≡ first_where (is_tied (code_of address)) m }
 {
-    let mut t = 0;
-    while t < m {
+    for t in 0..m {
         if is_tied(address, t) {
             return t;
         }
-        t += 1;
     }
     m
 }
@@ -123,11 +115,10 @@ fn read_bits(net: Netlist) -> [bool; 601]
     ensures { HasAll (is_read (alone net)) result }
 {
     let mut flags = [false; 601];
-    let last = netlist::first_gate_wire(net).index();
-    let mut w = netlist::first_read_wire(net).index();
-    while w < last {
+    let first = netlist::first_read_wire(net).index();
+    let end = netlist::first_gate_wire(net).index();
+    for w in first..end {
         flags[w] = true;
-        w += 1;
     }
     flags
 }
@@ -139,14 +130,10 @@ fn depends_on_read(net: Netlist, gates: &UnpackedList) -> [bool; 601]
 {
     let mut flags = read_bits(net);
     let first = netlist::first_gate_wire(net).index();
-    let mut g = 0;
-    while g < net.gates {
-        let at = 2 * (g as usize);
-        let left = Code(gates[at]).wire_index();
-        let right = Code(gates[at + 1]).wire_index();
-        let own = first + g as usize;
-        flags[own] = flags[left] | flags[right];
-        g += 1;
+    for g in 0..net.gates as usize {
+        let left = Code(gates[2 * g]).wire_index();
+        let right = Code(gates[2 * g + 1]).wire_index();
+        flags[first + g] = flags[left] | flags[right];
     }
     flags
 }
@@ -157,29 +144,11 @@ fn loop_fault(net: Netlist, flags: &[bool; 601], line: Line) -> bool
     ensures { result ≡ loop_fault_by (entry flags.now) (alone net) line }
 {
     match line {
-        Line::Sizes => false,
-        Line::Memory => false,
-        Line::Latch(_) => false,
-        Line::Gate(_) => false,
-        Line::Address(t) => {
-            let at = t as usize;
-            let w = net.address[at].wire_index();
-            flags[w]
-        }
-        Line::WriteData(_) => false,
-        Line::SecondAddress(t) => {
-            let at = t as usize;
-            let w = net.address2[at].wire_index();
-            flags[w]
-        }
-        Line::SecondEnable => {
-            let w = net.re2.wire_index();
-            flags[w]
-        }
-        Line::Control => {
-            let w = net.re.wire_index();
-            flags[w]
-        }
+        Line::Sizes | Line::Memory | Line::Latch(_) | Line::Gate(_) | Line::WriteData(_) => false,
+        Line::Address(t) => flags[net.address[t as usize].wire_index()],
+        Line::SecondAddress(t) => flags[net.address2[t as usize].wire_index()],
+        Line::SecondEnable => flags[net.re2.wire_index()],
+        Line::Control => flags[net.re.wire_index()],
     }
 }
 
@@ -189,15 +158,10 @@ fn any_dependent(address: [Code; 12], m: u32, re: Code, flags: &[bool; 601]) -> 
     ensures { result ≡ any_dependent (entry flags.now) (code_of address) m re.0 }
 {
     let mut any = false;
-    let mut t = 0;
-    while t < m {
-        let at = t as usize;
-        let w = address[at].wire_index();
-        any = any | flags[w];
-        t += 1;
+    for code in &address[..m as usize] {
+        any |= flags[code.wire_index()];
     }
-    let w = re.wire_index();
-    any | flags[w]
+    any | flags[re.wire_index()]
 }
 
 // Whether any line makes a memory loop, by such a table.
@@ -224,10 +188,8 @@ fn test_loops(net: Netlist, gates: &UnpackedList) -> Verdict
     if !any_loop(net, &flags) {
         return Ok(());
     }
-    let last = netlist::control_line(net);
-    let mut place = 2 + net.latches + net.gates;
-    while place < last {
-        place += 1;
+    let first = 3 + net.latches + net.gates;
+    for place in first..=netlist::control_line(net) {
         let line = netlist::line_at(net, place);
         if loop_fault(net, &flags, line) {
             return Err(Refused(Refusal::MemoryLoop, place));

@@ -1,78 +1,64 @@
--- `circuit_values::address_of` meets its contract. The loop's invariant: the first t bits make the number.
+-- `circuit_values::address_of` meets its contract: the address' bits are the first m codes of the port's.
 
-use mathlib.Core.Path.{◌≡◌}
+use Prim.Native.Nat.{ℕ}
+use mathlib.Core.Path.{◌≡◌, sym, ◌∙◌, ap}
 use native.Mathlib.Omega.{arith}
+use borrow.Author.Tests.{eq-eqb, ne_eqb}
+use Rattle.model.specs.Netlist.{port}
 use Rattle.model.specs.Circuit.{code_value, address_of}
-use Rattle.model.proofs.Bits.{from_bits-below}
+use Rattle.model.proofs.Bits.{from_bits-same}
 use Rattle.model.proofs.Ports.{port-address}
 use Rattle.netlist.specs.NetOf.{code_of, net_of, alone}
-use Rattle.circuit_values.proofs.Bits.{from_bits-none, from_bits-next}
+use Rattle.netlist.specs.WireTable.{entry}
+use Rattle.netlist.specs.declared.Netlist.{Netlist}
+use Rattle.circuit_values.proofs.Codes.{front-fits, front-number}
 use Rattle.circuit_values.proofs.address_of.Goals as goal
 
-pub loop-t-init : goal.loop-t-init
-loop-t-init c =
-    (omega arith, from_bits-none _)
-
-pub overflow_cast-at : goal.overflow_cast-at
+-- the codes of a port are those of the first's array, or of the second's
+first : (r : Netlist) (p t : ℕ) → p ≡ 1 → (port (alone r) p).address t ≡ code_of r.address t
 unfolding net_of
-overflow_cast-at c =
-    omega (arith, c.requires.0.sizes)
+first r p t e = port-address (alone r) p t ∙ rw (eq-eqb p 1 e)
 
-pub offset_bounds-net-at : goal.offset_bounds-net-at
+second : (r : Netlist) (p t : ℕ) → (p ≡ 1 → ⊥) → (port (alone r) p).address t ≡ code_of r.address2 t
 unfolding net_of
-offset_bounds-net-at c =
-    omega (arith, c.requires.0.sizes)
+second r p t e = port-address (alone r) p t ∙ rw (ne_eqb p 1 e)
 
-pub bounds-net-at : goal.bounds-net-at
+pub shared_ref_as_front-number_of : goal.shared_ref_as_front-number_of
 unfolding net_of
-bounds-net-at c =
-    omega (arith, c.requires.0.sizes)
+shared_ref_as_front-number_of c = omega (arith, c.requires.0.sizes)
 
-pub offset_bounds-net-at-in-loop-t : goal.offset_bounds-net-at-in-loop-t
+pub number_of-requires : goal.number_of-requires
 unfolding net_of
-offset_bounds-net-at-in-loop-t c =
-    omega (arith, c.requires.0.sizes)
+number_of-requires c =
+    let limits = c.requires.0 in
+    let p = c.args.port_number in
+    front-fits c.args.net.address c.args.net.m (omega (arith, limits.sizes)) (omega (arith, limits.sizes))
+    (λ t h. omega (arith, limits.sizes, limits.codes.address-fits p c.requires.1 t h, first c.args.net p t c.if-port_number-eq1.true))
 
-pub bounds-net-at-in-loop-t : goal.bounds-net-at-in-loop-t
+pub returns-then-port_number-eq1 : goal.returns-then-port_number-eq1
+unfolding net_of address_of
+returns-then-port_number-eq1 c =
+    let v = entry c.args.values.now in
+    c.number_of.ensures
+    ∙ front-number c.args.net.address c.args.net.m (omega (arith, c.requires.0.sizes)) v
+    ∙ from_bits-same _ _ _ (λ t h. ap (code_value v) (sym (first c.args.net c.args.port_number t c.if-port_number-eq1.true)))
+
+pub shared_ref_as_front-number_of-2 : goal.shared_ref_as_front-number_of-2
 unfolding net_of
-bounds-net-at-in-loop-t c =
-    omega (arith, c.requires.0.sizes)
+shared_ref_as_front-number_of-2 c = omega (arith, c.requires.0.sizes)
 
-pub of_port-code-requires : goal.of_port-code-requires
-of_port-code-requires c =
-    tt
-
-pub code_value-requires : goal.code_value-requires
-unfolding net_of code_of
-code_value-requires c =
-    let t = c.loop-t.t in
-    omega (arith, c.of_port-code.ensures, port-address (alone c.args.net) c.args.port_number t, c.requires.0.sizes, c.requires.0.codes.address-fits c.args.port_number c.requires.1 t c.loop-t-test.true)
-
-pub with_bit-number-requires : goal.with_bit-number-requires
+pub number_of-requires-2 : goal.number_of-requires-2
 unfolding net_of
-with_bit-number-requires c =
-    (omega (arith, c.requires.0.sizes), rw c.loop-t.invariant.1 (from_bits-below _ _))
-
-pub overflow_add-t : goal.overflow_add-t
-unfolding net_of
-overflow_add-t c =
-    omega (arith, c.requires.0.sizes)
-
-pub loop-t-smaller : goal.loop-t-smaller
-unfolding net_of
-loop-t-smaller c =
-    omega (arith, c.requires.0.sizes)
-
-pub loop-t-preserved : goal.loop-t-preserved
-unfolding net_of code_of
-loop-t-preserved c =
-    let t = c.loop-t.t in (
-      omega arith,
-      rw (c.with_bit-number.ensures, c.code_value.ensures, c.of_port-code.ensures, ← port-address (alone c.args.net) c.args.port_number t, c.loop-t.invariant.1) (from_bits-next t _),
-    )
+number_of-requires-2 c =
+    let limits = c.requires.0 in
+    let p = c.args.port_number in
+    front-fits c.args.net.address2 c.args.net.m (omega (arith, limits.sizes)) (omega (arith, limits.sizes))
+    (λ t h. omega (arith, limits.sizes, limits.codes.address-fits p c.requires.1 t h, second c.args.net p t c.if-port_number-eq1.false))
 
 pub returns : goal.returns
 unfolding net_of address_of
 returns c =
-    let all : c.loop-t.t ≡ c.args.net.m = omega arith in
-    rw (c.loop-t.invariant.1, all)
+    let v = entry c.args.values.now in
+    c.number_of-2.ensures
+    ∙ front-number c.args.net.address2 c.args.net.m (omega (arith, c.requires.0.sizes)) v
+    ∙ from_bits-same _ _ _ (λ t h. ap (code_value v) (sym (second c.args.net c.args.port_number t c.if-port_number-eq1.false)))

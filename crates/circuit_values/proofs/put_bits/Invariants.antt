@@ -1,13 +1,8 @@
 -- `circuit_values::put_bits` meets its contract. The loop's invariant: the table has the first t bits.
 
-use Prim.Native.Nat.{◌-◌, ◌≤◌}
 use Rattle.model.specs.Bits.{bit}
 use Rattle.circuit_values.proofs.WireTable.{Grown}
 use Rattle.circuit_values.proofs.put_bits.Given as goal
 
 abbrev pub invariant-loop-t : goal.invariant-loop-t
-invariant-loop-t l =
-    (l.t ≤ l.count) × Grown l.initial.values l.first (bit l.word) l.values l.t
-
-abbrev pub decreases-loop-t : goal.decreases-loop-t
-decreases-loop-t l = l.count - l.t
+invariant-loop-t l = Grown l.initial.values l.first (bit l.word) l.values l.t

@@ -9,12 +9,6 @@ use Rattle.netlist.specs.Faults.{code_fault}
 use Rattle.netlist_scan.specs.AnyLine.{any_latch, any_gate, any_above, any_in_second, any_in_record, any_line}
 use Rattle.netlist_scan.proofs.any_code_fault.Goals as goal
 
-pub last_wire-last-requires : goal.last_wire-last-requires
-last_wire-last-requires c = c.requires
-
-pub first_gate_wire-first-requires : goal.first_gate_wire-first-requires
-first_gate_wire-first-requires c = c.requires
-
 pub any_latch-requires : goal.any_latch-requires
 unfolding net_of
 any_latch-requires c = c.requires.latches-fit
@@ -22,9 +16,6 @@ any_latch-requires c = c.requires.latches-fit
 pub any_gate-requires : goal.any_gate-requires
 unfolding net_of
 any_gate-requires c = (omega (arith, c.first_gate_wire-first.ensures, c.requires), c.requires.gates-fit)
-
-pub any_in_record-requires : goal.any_in_record-requires
-any_in_record-requires c = c.requires
 
 pub returns : goal.returns
 unfolding net_of code_fault any_latch any_gate any_above any_in_second any_in_record any_line

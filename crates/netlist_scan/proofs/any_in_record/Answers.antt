@@ -1,38 +1,33 @@
 -- `netlist_scan::any_in_record` meets its contract: it is the definition's disjunction, array by array.
 
+use Prim.Native.Nat.{◌≤◌}
+use lib.ListN.{length}
 use native.Mathlib.Omega.{arith}
 use Rattle.netlist.specs.NetOf.{net_of}
 use Rattle.netlist_scan.specs.AnyLine.{any_in_record}
+use Rattle.netlist_scan.proofs.AnyLine.{front}
 use Rattle.netlist_scan.proofs.any_in_record.Goals as goal
 
-pub any_address-requires : goal.any_address-requires
+pub shared_ref_as_front-any_above : goal.shared_ref_as_front-any_above
 unfolding net_of
-any_address-requires c = omega (arith, c.requires)
+shared_ref_as_front-any_above c = omega (arith, c.requires)
 
-pub any_data-requires : goal.any_data-requires
+pub shared_ref_as_front-any_above-2 : goal.shared_ref_as_front-any_above-2
 unfolding net_of
-any_data-requires c = omega (arith, c.requires)
-
-pub any_in_second-requires : goal.any_in_second-requires
-any_in_second-requires c = c.requires
+shared_ref_as_front-any_above-2 c = omega (arith, c.requires)
 
 pub returns : goal.returns
 unfolding net_of any_in_record
 returns c =
+    let address-fits : c.args.net.m ≤ length c.args.net.address = omega (arith, c.requires) in
+    let data-fits : c.args.net.n ≤ length c.args.net.write_data = omega (arith, c.requires) in
     rw (
-      c.any_address.ensures,
-      c.any_data.ensures,
+      c.any_above.ensures,
+      front _ _ _ address-fits,
+      c.any_above-2.ensures,
+      front _ _ _ data-fits,
       c.any_in_second.ensures,
       c.is_above.ensures,
       c.is_above-2.ensures,
       c.is_above-3.ensures,
     )
-
-pub is_above-requires : goal.is_above-requires
-is_above-requires c = tt
-
-pub is_above-requires-2 : goal.is_above-requires-2
-is_above-requires-2 c = tt
-
-pub is_above-requires-3 : goal.is_above-requires-3
-is_above-requires-3 c = tt

@@ -1,53 +1,37 @@
--- `netlist_tests::any_dependent` meets its contract. The loop's invariant: what was found is what the first t address codes have.
+-- `netlist_tests::any_dependent` meets its contract. The loop's invariant: what was found is what the address codes before have.
 
+use Prim.Native.Nat.{◌<◌, ◌≤◌}
 use mathlib.Core.Path.{◌≡◌}
 use mathlib.Core.Bool.{false}
 use native.Mathlib.Omega.{arith}
+use lib.ListN.{length}
+use Rattle.std.proofs.lemmas.List.{get_or-take, length-take-le}
 use Rattle.model.proofs.Search.{any_none, any_next}
 use Rattle.netlist.specs.NetOf.{code_of}
 use Rattle.netlist_tests.specs.OnePort.{any_dependent}
 use Rattle.netlist_tests.proofs.any_dependent.Goals as goal
 
-pub loop-t-init : goal.loop-t-init
-loop-t-init c = (omega arith, any_none false _)
+pub loop-code-init : goal.loop-code-init
+loop-code-init c = any_none false _
 
-pub overflow_cast-at : goal.overflow_cast-at
-overflow_cast-at c = omega arith
-
-pub offset_bounds-address-at : goal.offset_bounds-address-at
-offset_bounds-address-at c = omega arith
-
-pub bounds-address-at : goal.bounds-address-at
-bounds-address-at c = omega arith
-
-pub wire_index-w-requires : goal.wire_index-w-requires
-wire_index-w-requires c = tt
-
-pub bounds-flags-w : goal.bounds-flags-w
+pub bounds-flags-wire_index : goal.bounds-flags-wire_index
 unfolding code_of
-bounds-flags-w c = omega (arith, c.requires.1 c.loop-t.t c.loop-t-test.true)
+bounds-flags-wire_index c =
+    let fits : c.args.m ≤ length c.args.address = omega arith in
+    let before : c.loop-code.code-index < c.args.m = omega (arith, length-take-le c.args.m c.args.address fits) in
+    rw (c.wire_index.ensures, get_or-take c.args.m c.args.address c.loop-code.code-index (record { 0 = 0 }) before)
+    (omega (arith, c.requires.1 c.loop-code.code-index before))
 
-pub overflow_add-t : goal.overflow_add-t
-overflow_add-t c = omega arith
-
-pub loop-t-smaller : goal.loop-t-smaller
-loop-t-smaller c = omega arith
-
-pub loop-t-preserved : goal.loop-t-preserved
+pub loop-code-preserved : goal.loop-code-preserved
 unfolding code_of
-loop-t-preserved c = (
-  omega arith,
-  rw (c.loop-t.invariant.1, c.wire_index-w.ensures) (any_next false _ c.loop-t.t),
-)
-
-pub wire_index-w-requires-2 : goal.wire_index-w-requires-2
-wire_index-w-requires-2 c = tt
-
-pub bounds-flags-w-2 : goal.bounds-flags-w-2
-bounds-flags-w-2 c = omega (arith, c.requires.2)
+loop-code-preserved c =
+    let fits : c.args.m ≤ length c.args.address = omega arith in
+    let before : c.loop-code.code-index < c.args.m = omega (arith, length-take-le c.args.m c.args.address fits) in
+    rw (c.loop-code.invariant, c.wire_index.ensures, get_or-take c.args.m c.args.address c.loop-code.code-index (record { 0 = 0 }) before) (any_next false _ c.loop-code.code-index)
 
 pub returns : goal.returns
 unfolding any_dependent
 returns c =
-    let all : c.loop-t.t ≡ c.args.m = omega arith in
-    rw (c.loop-t.invariant.1, all, c.wire_index-w-2.ensures)
+    let fits : c.args.m ≤ length c.args.address = omega arith in
+    let all : c.loop-code.code-index ≡ c.args.m = omega (arith, length-take-le c.args.m c.args.address fits) in
+    rw (c.loop-code.invariant, all, c.wire_index-2.ensures)

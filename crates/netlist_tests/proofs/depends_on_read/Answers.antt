@@ -17,92 +17,45 @@ read_bits-flags-requires c = sizes-lists c.args.net [] c.args.gates.now [] [] c.
 pub first_gate_wire-requires : goal.first_gate_wire-requires
 first_gate_wire-requires c = sizes-lists c.args.net [] c.args.gates.now [] [] c.requires.sizes
 
-pub index-first-requires : goal.index-first-requires
-index-first-requires c = tt
-
 pub loop-g-init : goal.loop-g-init
 unfolding net_of sweep is_read
-loop-g-init c = (omega arith, table_same (λ w. refl) c.read_bits-flags.ensures)
+loop-g-init c = table_same (λ w. refl) c.read_bits-flags.ensures
 
-pub overflow_cast-at : goal.overflow_cast-at
+pub bounds-gates-g : goal.bounds-gates-g
 unfolding net_of
-overflow_cast-at c = omega (arith, c.requires.sizes)
+bounds-gates-g c = omega (arith, c.requires.sizes)
 
-pub overflow_mul-at : goal.overflow_mul-at
+pub bounds-gates-g-in-loop-g : goal.bounds-gates-g-in-loop-g
 unfolding net_of
-overflow_mul-at c = omega (arith, c.requires.sizes)
-
-pub offset_bounds-gates-at : goal.offset_bounds-gates-at
-unfolding net_of
-offset_bounds-gates-at c = omega (arith, c.requires.sizes)
-
-pub bounds-gates-at : goal.bounds-gates-at
-unfolding net_of
-bounds-gates-at c = omega (arith, c.requires.sizes)
-
-pub wire_index-left-requires : goal.wire_index-left-requires
-wire_index-left-requires c = tt
-
-pub overflow_add-at : goal.overflow_add-at
-unfolding net_of
-overflow_add-at c = omega (arith, c.requires.sizes)
-
-pub offset_bounds-gates-at-in-loop-g : goal.offset_bounds-gates-at-in-loop-g
-unfolding net_of
-offset_bounds-gates-at-in-loop-g c = omega (arith, c.requires.sizes)
-
-pub bounds-gates-at-in-loop-g : goal.bounds-gates-at-in-loop-g
-unfolding net_of
-bounds-gates-at-in-loop-g c = omega (arith, c.requires.sizes)
-
-pub wire_index-right-requires : goal.wire_index-right-requires
-wire_index-right-requires c = tt
-
-pub overflow_cast-own : goal.overflow_cast-own
-unfolding net_of
-overflow_cast-own c = omega (arith, c.index-first.ensures, c.first_gate_wire.ensures, c.requires.sizes)
-
-pub overflow_add-own : goal.overflow_add-own
-unfolding net_of
-overflow_add-own c = omega (arith, c.index-first.ensures, c.first_gate_wire.ensures, c.requires.sizes)
+bounds-gates-g-in-loop-g c = omega (arith, c.requires.sizes)
 
 pub bounds-flags-left : goal.bounds-flags-left
 unfolding net_of
-bounds-flags-left c = omega (arith, c.wire_index-left.ensures, c.requires.codes.left-fits c.loop-g.g c.loop-g-test.true, c.requires.sizes)
+bounds-flags-left c = omega (arith, c.wire_index-left.ensures, c.requires.codes.left-fits c.loop-g.g (omega arith), c.requires.sizes)
 
 pub bounds-flags-right : goal.bounds-flags-right
 unfolding net_of
-bounds-flags-right c = omega (arith, c.wire_index-right.ensures, c.requires.codes.right-fits c.loop-g.g c.loop-g-test.true, c.requires.sizes)
+bounds-flags-right c = omega (arith, c.wire_index-right.ensures, c.requires.codes.right-fits c.loop-g.g (omega arith), c.requires.sizes)
 
-pub bounds-flags-own : goal.bounds-flags-own
+pub bounds-flags-first : goal.bounds-flags-first
 unfolding net_of
-bounds-flags-own c = omega (arith, c.index-first.ensures, c.first_gate_wire.ensures, c.requires.sizes)
-
-pub overflow_add-g : goal.overflow_add-g
-unfolding net_of
-overflow_add-g c = omega (arith, c.requires.sizes)
-
-pub loop-g-smaller : goal.loop-g-smaller
-unfolding net_of
-loop-g-smaller c = omega (arith, c.requires.sizes)
+bounds-flags-first c = omega (arith, c.index-first.ensures, c.first_gate_wire.ensures, c.requires.sizes)
 
 pub loop-g-preserved : goal.loop-g-preserved
 unfolding net_of either_wire
 loop-g-preserved c =
     let d = net_of c.args.net [] c.args.gates.now in
     let g = c.loop-g.g in
-    let q = c.loop-g.invariant.1 in
+    let q = c.loop-g.invariant in
     let own : c.index-first.result + g ≡ gate_wire d g = omega (arith, c.index-first.ensures, c.first_gate_wire.ensures) in
-    let left : d.left g / 2 < 601 = omega (arith, c.requires.codes.left-fits g c.loop-g-test.true, c.requires.sizes) in
-    let right : d.right g / 2 < 601 = omega (arith, c.requires.codes.right-fits g c.loop-g-test.true, c.requires.sizes) in (
-      omega arith,
-      rw (own, c.wire_index-left.ensures, c.wire_index-right.ensures, q.has (d.left g / 2) left, q.has (d.right g / 2) right)
-          (table_same (sweep-next either_wire d (is_read d) g) (table-set q (gate_wire d g) (omega (arith, c.requires.sizes)) (either_wire (sweep either_wire d (is_read d) g) (d.left g) (d.right g)))),
-    )
+    let left : d.left g / 2 < 601 = omega (arith, c.requires.codes.left-fits g (omega arith), c.requires.sizes) in
+    let right : d.right g / 2 < 601 = omega (arith, c.requires.codes.right-fits g (omega arith), c.requires.sizes) in
+    rw (own, c.wire_index-left.ensures, c.wire_index-right.ensures, q.has (d.left g / 2) left, q.has (d.right g / 2) right)
+    (table_same (sweep-next either_wire d (is_read d) g) (table-set q (gate_wire d g) (omega (arith, c.requires.sizes)) (either_wire (sweep either_wire d (is_read d) g) (d.left g) (d.right g))))
 
 pub returns : goal.returns
 unfolding net_of depends_on_read
 returns c =
     let d = net_of c.args.net [] c.args.gates.now in
     let all : c.loop-g.g ≡ c.args.net.gates = omega arith in
-    table_same (λ w. ap (λ k. sweep either_wire d (is_read d) k w) all) c.loop-g.invariant.1
+    table_same (λ w. ap (λ k. sweep either_wire d (is_read d) k w) all) c.loop-g.invariant

@@ -1,54 +1,31 @@
--- `netlist_tests::is_tied` meets its contract. The loop's invariant: what was found is whether the wire is that of one of the first s codes.
+-- `netlist_tests::is_tied` meets its contract. The loop's invariant: what was found is whether the wire is that of one of the codes before.
 
+use Prim.Native.Nat.{◌<◌, ◌≤◌}
 use mathlib.Core.Path.{◌≡◌}
 use mathlib.Core.Bool.{false}
 use native.Mathlib.Omega.{arith}
+use lib.ListN.{length}
+use Rattle.std.proofs.lemmas.List.{get_or-take, length-take-le}
 use Rattle.model.specs.Search.{seen}
 use Rattle.model.proofs.Search.{any_none, any_next}
 use Rattle.netlist.specs.NetOf.{code_of}
 use Rattle.netlist.specs.Faults.{is_tied}
 use Rattle.netlist_tests.proofs.is_tied.Goals as goal
 
-pub offset_bounds-address-t : goal.offset_bounds-address-t
-offset_bounds-address-t c = omega arith
-
-pub bounds-address-t : goal.bounds-address-t
-bounds-address-t c = omega arith
-
-pub wire_index-own-requires : goal.wire_index-own-requires
-wire_index-own-requires c = tt
-
-pub loop-s-init : goal.loop-s-init
+pub loop-earlier-init : goal.loop-earlier-init
 unfolding seen
-loop-s-init c = (omega arith, any_none false _)
+loop-earlier-init c = any_none false _
 
-pub overflow_cast-at : goal.overflow_cast-at
-overflow_cast-at c = omega arith
-
-pub offset_bounds-address-at : goal.offset_bounds-address-at
-offset_bounds-address-at c = omega arith
-
-pub bounds-address-at : goal.bounds-address-at
-bounds-address-at c = omega arith
-
-pub wire_index-requires : goal.wire_index-requires
-wire_index-requires c = tt
-
-pub overflow_add-s : goal.overflow_add-s
-overflow_add-s c = omega arith
-
-pub loop-s-smaller : goal.loop-s-smaller
-loop-s-smaller c = omega arith
-
-pub loop-s-preserved : goal.loop-s-preserved
+pub loop-earlier-preserved : goal.loop-earlier-preserved
 unfolding code_of seen
-loop-s-preserved c = (
-  omega arith,
-  rw (c.loop-s.invariant.1, c.wire_index.ensures) (any_next false _ c.loop-s.s),
-)
+loop-earlier-preserved c =
+    let fits : c.args.t ≤ length c.args.address = omega arith in
+    let before : c.loop-earlier.earlier-index < c.args.t = omega (arith, length-take-le c.args.t c.args.address fits) in
+    rw (c.loop-earlier.invariant, c.wire_index.ensures, get_or-take c.args.t c.args.address c.loop-earlier.earlier-index (record { 0 = 0 }) before) (any_next false _ c.loop-earlier.earlier-index)
 
 pub returns : goal.returns
 unfolding code_of is_tied
 returns c =
-    let all : c.loop-s.s ≡ c.args.t = omega arith in
-    rw (c.loop-s.invariant.1, all, c.wire_index-own.ensures)
+    let fits : c.args.t ≤ length c.args.address = omega arith in
+    let all : c.loop-earlier.earlier-index ≡ c.args.t = omega (arith, length-take-le c.args.t c.args.address fits) in
+    rw (c.loop-earlier.invariant, all, c.wire_index-own.ensures)

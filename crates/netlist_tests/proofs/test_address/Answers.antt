@@ -1,15 +1,8 @@
 -- `netlist_tests::test_address` meets its contract: the first tied code decides.
 
-use native.Mathlib.Omega.{arith}
 use borrow.Author.Tests.{lt-ltb, le-ltb}
 use Rattle.netlist_tests.specs.OnePort.{test_address}
 use Rattle.netlist_tests.proofs.test_address.Goals as goal
-
-pub first_tie-t-requires : goal.first_tie-t-requires
-first_tie-t-requires c = c.requires.0
-
-pub overflow_add-result : goal.overflow_add-result
-overflow_add-result c = omega arith
 
 pub returns-then-t-m : goal.returns-then-t-m
 unfolding test_address
