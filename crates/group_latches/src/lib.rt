@@ -30,6 +30,7 @@ fn put_reset(out: &mut [i32], b: u32, q: Wire, reset: u32) -> usize
 }
 
 // Each latch in frame 0.
+#[tactic(auto, unfolding(netlist::specs::NetOf::net_of))]
 pub fn put_resets(out: &mut [i32], net: Netlist, latches: &UnpackedList) -> usize
     requires { FrameFits (net_of net latches.now []) 0 × (net.latches * 2 ≤ length out.old) }
     ensures { Wrote (written (gather net.latches (reset_clauses (net_of net latches.now []))))
@@ -37,13 +38,10 @@ pub fn put_resets(out: &mut [i32], net: Netlist, latches: &UnpackedList) -> usiz
 {
     let b = clause_variables::frame_base(net, 0);
     let first = netlist::first_latch_wire(net);
-    let n = net.latches;
-    let mut at: usize = 0;
-    let mut l: u32 = 0;
-    while l < n {
+    let mut at = 0;
+    for l in 0..net.latches {
         let reset = latches[(2 * l + 1) as usize];
-        at = at + put_reset(&mut out[at..], b, first.offset(l), reset);
-        l = l + 1;
+        at += put_reset(&mut out[at..], b, first.offset(l), reset);
     }
     at
 }
@@ -58,6 +56,7 @@ fn put_latch(out: &mut [i32], b: u32, q: Wire, before: u32, d: Code) -> usize
 }
 
 // Each latch in the frame after frame i.
+#[tactic(auto, unfolding(netlist::specs::NetOf::net_of))]
 pub fn put_latches(out: &mut [i32], net: Netlist, latches: &UnpackedList, i: u32) -> usize
     requires { FrameFits (net_of net latches.now []) (i + 1) × (net.latches * 6 ≤ length out.old) }
     ensures { Wrote (written (gather net.latches (latch_clauses (net_of net latches.now []) i)))
@@ -66,13 +65,10 @@ pub fn put_latches(out: &mut [i32], net: Netlist, latches: &UnpackedList, i: u32
     let before = clause_variables::frame_base(net, i);
     let b = clause_variables::frame_base(net, i + 1);
     let first = netlist::first_latch_wire(net);
-    let n = net.latches;
-    let mut at: usize = 0;
-    let mut l: u32 = 0;
-    while l < n {
+    let mut at = 0;
+    for l in 0..net.latches {
         let d = Code(latches[(2 * l) as usize]);
-        at = at + put_latch(&mut out[at..], b, first.offset(l), before, d);
-        l = l + 1;
+        at += put_latch(&mut out[at..], b, first.offset(l), before, d);
     }
     at
 }
