@@ -76,7 +76,7 @@ module _ (c : Netlist) (r : Refusal) (fault : Netlist → Line → Bool) (p : �
   pub passed-place : fault c (line_at c p) ≡ false → PassedTo c r fault (p + 1 - 1)
   passed-place e = subst (PassedTo c r fault) next (passed-next c r fault (p - 1) before (rw last e))
 
-  pub refused-place : fault c (line_at c p) ≡ true → p ≤ control_line c → test_lines c r fault ≡ Refused r p
+  pub refused-place : fault c (line_at c p) ≡ true → p ≤ control_line c → test_lines c r fault ≡ refuse r p
   refused-place e l = rw last at (refused-next c r fault (p - 1) before (rw last e) (rw last l))
 
   pub passed-last : fault c (line_at c p) ≡ false → p ≡ control_line c → test_lines c r fault ≡ Passed
