@@ -128,4 +128,4 @@ only-refusals s r p e = by-depth (depth_verdict s) refl
   where
     by-depth : (v : Verdict) → depth_verdict s ≡ v → Due 7 r
     by-depth (Ok _) h = subst (Only 7) (sym (sheet-decides s h) ∙ e) (only-more (sheet_in (drop 11 s)) (only-sheet (drop 11 s)))
-    by-depth (Err e) h = subst (Only 7) (sym (depth-decides s h) ∙ e) (subst (Only 7) h (only-depth s))
+    by-depth (Err f) h = subst (Only 7) (sym (depth-decides s h) ∙ e) (subst (Only 7) h (only-depth s))

@@ -18,7 +18,7 @@ use Rattle.call_position.proofs.Literals.{numbering-shown}
 use Rattle.call_source.specs.Sources.{port_in, source_verdict}
 use Rattle.call_source.proofs.Sources.{port-there}
 use Rattle.call_source.proofs.test_source.Goals as goal
-use Rattle.call_source.proofs.test_source.Goals.{After-has_source, After-is_above, Else-not-has_source, In_default}
+use Rattle.call_source.proofs.test_source.Goals.{After-has_source, After-is_above, Else-not-has_source, In_ok-test_numbering}
 
 pub returns-in_err-test_numbering : goal.returns-in_err-test_numbering
 unfolding source_verdict ◌then◌
