@@ -10,10 +10,9 @@ use borrow.Author.Tests.{eq-eqb, ne_eqb, eqb-true}
 use lib.Dec.{eqb}
 use lib.ListN.{length, get_or, drop, replicate, length-append, length-replicate, drop_of_length-le}
 use lib.Seq.{drop-cons}
+use Rattle.std.specs.Prelude.{Option, Some, None}
 use Rattle.decimal.specs.Digits.{space, digits, field, empty_field}
 use Rattle.decimal.specs.TextValue.{number_in}
-use Rattle.decimal.specs.declared.Number.{Number}
-use Rattle.decimal.specs.declared.Number.TheVariants.{Value, NotANumber}
 use Rattle.decimal.proofs.Digits.{length-digits-some}
 use Rattle.decimal.proofs.TextValue.{first-is-digit, number_in-digits, digits-number_in}
 use Rattle.sheet_fields.specs.Fields.{drop_spaces, filled_with, behind_spaces, field_of}
@@ -98,17 +97,17 @@ unfolding field_of drop_spaces behind_spaces
 field_of-empty = refl
 
 -- what is read as a number or as empty, taken back to the part behind the spaces
-filled-back : (r : Number) (x : ℕ) → filled_with r ≡ Filled x → r ≡ Value x
+filled-back : (r : Option ℕ) (x : ℕ) → filled_with r ≡ Filled x → r ≡ Some x
 unfolding filled_with
-filled-back (Value y) x h = cc
-filled-back NotANumber x h = let z : ◌≡◌ {A = ℕ} 0 1 = cc in absurd (omega arith)
+filled-back (Some y) x h = cc
+filled-back None x h = let z : ◌≡◌ {A = ℕ} 0 1 = cc in absurd (omega arith)
 
-never-empty : (r : Number) → filled_with r ≡ Empty → ⊥
+never-empty : (r : Option ℕ) → filled_with r ≡ Empty → ⊥
 unfolding filled_with
-never-empty (Value y) h = let z : ◌≡◌ {A = ℕ} 0 1 = cc in omega arith
-never-empty NotANumber h = let z : ◌≡◌ {A = ℕ} 0 1 = cc in omega arith
+never-empty (Some y) h = let z : ◌≡◌ {A = ℕ} 0 1 = cc in omega arith
+never-empty None h = let z : ◌≡◌ {A = ℕ} 0 1 = cc in omega arith
 
-number_behind : (d : List ℕ) (x : ℕ) → behind_spaces d ≡ Filled x → number_in d ≡ Value x
+number_behind : (d : List ℕ) (x : ℕ) → behind_spaces d ≡ Filled x → number_in d ≡ Some x
 unfolding behind_spaces
 number_behind [] x h = let z : ◌≡◌ {A = ℕ} 0 1 = cc in absurd (omega arith)
 number_behind (c ∷ d) x h = filled-back (number_in (c ∷ d)) x h

@@ -4,8 +4,6 @@
 ghost use Rattle.std.specs.Prelude.{◌≡◌};
 ghost use Rattle.sheet_fields.specs.Fields.{drop_spaces, field_of};
 
-use decimal::Number;
-
 // What ten columns are read as (RULES S2 and S3): nothing, a number, or neither.
 #[derive(Clone, Copy)]
 pub enum Field {
@@ -18,15 +16,12 @@ pub enum Field {
 fn after_spaces(field: &[u8]) -> &[u8]
     ensures { result.now ≡ drop_spaces field.now }
 {
-    let mut i = 0;
-    while i < field.len() {
-        if field[i] == b' ' {
-            i += 1;
-        } else {
+    for (i, &c) in field.iter().enumerate() {
+        if c != b' ' {
             return &field[i..];
         }
     }
-    &field[i..]
+    b""
 }
 
 // What a field is read as.
@@ -38,7 +33,7 @@ pub fn read_field(field: &[u8]) -> Field
         return Field::Empty;
     }
     match decimal::read_number(digits) {
-        Number::Value(x) => Field::Filled(x),
-        Number::NotANumber => Field::Misprinted,
+        Some(x) => Field::Filled(x),
+        None => Field::Misprinted,
     }
 }

@@ -10,18 +10,18 @@ pub returns-then-digits-eq0 : goal.returns-then-digits-eq0
 returns-then-digits-eq0 c =
     sym (field_of-none c.args.field.now c.after_spaces-digits.result.now c.after_spaces-digits.ensures (omega arith))
 
-pub returns-in-Value : goal.returns-in-Value
+pub returns-in-Some : goal.returns-in-Some
 unfolding filled_with
-returns-in-Value c =
+returns-in-Some c =
     sym
     (field_of-some c.args.field.now c.after_spaces-digits.result.now
     c.after_spaces-digits.ensures c.if-digits-eq0.false
-    ∙ ap filled_with (sym c.read_number.ensures ∙ c.in-Value.is))
+    ∙ ap filled_with (sym c.read_number.ensures ∙ c.in-Some.is))
 
-pub returns-in-NotANumber : goal.returns-in-NotANumber
+pub returns-in-None : goal.returns-in-None
 unfolding filled_with
-returns-in-NotANumber c =
+returns-in-None c =
     sym
     (field_of-some c.args.field.now c.after_spaces-digits.result.now
     c.after_spaces-digits.ensures c.if-digits-eq0.false
-    ∙ ap filled_with (sym c.read_number.ensures ∙ c.in-NotANumber.is))
+    ∙ ap filled_with (sym c.read_number.ensures ∙ c.in-None.is))
