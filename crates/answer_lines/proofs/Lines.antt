@@ -5,11 +5,10 @@ use mathlib.Core.Bool.{Bool, true, false, cond, ◌&&◌}
 use mathlib.Core.List.{List, [], ◌∷◌, ◌++◌, append-nil}
 use lib.IntN.{ℤ}
 use lib.ListN.{drop}
+use Rattle.std.specs.Prelude.{Option, Some, None}
 use Rattle.decimal.specs.Digits.{space}
 use Rattle.decimal.specs.TextValue.{same_text}
 use Rattle.decimal.specs.SignedValue.{clause_number_in}
-use Rattle.decimal.specs.declared.ClauseNumber.{ClauseNumber}
-use Rattle.decimal.specs.declared.ClauseNumber.TheVariants.{Value, NotANumber}
 use Rattle.text_words.specs.Words.{words_of, Without}
 use Rattle.text_words.proofs.Words.{words_last}
 use Rattle.answer_signs.specs.Signs.{SignsOf}
@@ -38,17 +37,17 @@ module _ (w : List ℕ) (ws : List (List ℕ)) (ls : List (List ℕ)) where
   abbrev pub all : Answer
   all = answer_of_values (all_clause_numbers (w ∷ ws) && all_value_lines ls) (clause_numbers (w ∷ ws) ++ all_values ls)
 
-  pub word_number : (z : ℤ) → clause_number_in w ≡ Value z → is_zero z ≡ false → all ≡ after_numbers (z ∷ []) others
+  pub word_number : (z : ℤ) → clause_number_in w ≡ Some z → is_zero z ≡ false → all ≡ after_numbers (z ∷ []) others
   unfolding all_clause_numbers clause_numbers
   word_number z e n = rw e (answer_of_values-next (all_clause_numbers ws && all_value_lines ls) z (clause_numbers ws ++ all_values ls) n)
 
-  pub word-early : (z : ℤ) → clause_number_in w ≡ Value z → is_zero z ≡ true → is_empty (clause_numbers ws ++ all_values ls) ≡ false → all ≡ malformed
+  pub word-early : (z : ℤ) → clause_number_in w ≡ Some z → is_zero z ≡ true → is_empty (clause_numbers ws ++ all_values ls) ≡ false → all ≡ malformed
   unfolding all_clause_numbers clause_numbers
   word-early z e n some = rw e (answer_of_values-early (all_clause_numbers ws && all_value_lines ls) z (clause_numbers ws ++ all_values ls) n some)
 
-  pub word_none : clause_number_in w ≡ NotANumber → all ≡ malformed
+  pub word_none : clause_number_in w ≡ None → all ≡ malformed
   unfolding all_clause_numbers clause_numbers
-  word_none e = rw e (answer_of_values-no (number_value NotANumber ∷ (clause_numbers ws ++ all_values ls)))
+  word_none e = rw e (answer_of_values-no (number_value None ∷ (clause_numbers ws ++ all_values ls)))
 
 -- a value line, by its words
 pub value_line_lem : (l : List ℕ) (ws : List (List ℕ)) (ls : List (List ℕ)) → is_marked l ≡ true → words_of (drop 2 l) ≡ ws
@@ -62,7 +61,7 @@ unfolding values_answer all_value_lines is_value_line
 unmarked-line l ls m = rw m (answer_of_values-no (all_values (l ∷ ls)))
 
 -- a 0 with nothing behind it on its line
-zero-last : (w : List ℕ) (ls : List (List ℕ)) (z : ℤ) → clause_number_in w ≡ Value z → is_zero z ≡ true
+zero-last : (w : List ℕ) (ls : List (List ℕ)) (z : ℤ) → clause_number_in w ≡ Some z → is_zero z ≡ true
     → all w [] ls ≡ nothing_more (satisfiable []) ls
 zero-last w [] z e n = unfold all_clause_numbers clause_numbers all_value_lines all_values nothing_more in rw e (answer_of_values-last z n)
 zero-last w (l ∷ ls) z e n =
@@ -73,15 +72,15 @@ module _ (l : List ℕ) (ls : List (List ℕ)) (m : is_marked l ≡ true) (one :
   last_word : values_answer (l ∷ ls) ≡ all (drop 2 l) [] ls
   last_word = value_line_lem l (drop 2 l ∷ []) ls m (words_last (drop 2 l) one)
 
-  last-read : (number : ClauseNumber) → clause_number_in (drop 2 l) ≡ number
+  last-read : (number : Option ℤ) → clause_number_in (drop 2 l) ≡ number
       → values_answer (l ∷ ls) ≡ after_numbers (number_by number) (answer_from (progress_by number) ls)
   unfolding after_numbers answer_from values_answer all_clause_numbers clause_numbers
-  last-read (Value z) e = by_zero (is_zero z) refl
+  last-read (Some z) e = by_zero (is_zero z) refl
     where
       by_zero : (b : Bool) → is_zero z ≡ b → values_answer (l ∷ ls) ≡ after_numbers (cond b [] (z ∷ [])) (answer_from (cond b Complete Values) ls)
       by_zero true n = last_word ∙ zero-last (drop 2 l) ls z e n ∙ sym (after_numbers-none (nothing_more (satisfiable []) ls))
       by_zero false n = last_word ∙ word_number (drop 2 l) [] ls z e n
-  last-read NotANumber e = last_word ∙ word_none (drop 2 l) [] ls e
+  last-read None e = last_word ∙ word_none (drop 2 l) [] ls e
 
 -- a status line
 status-read : (l : List ℕ) (ls : List (List ℕ)) → status_answer (l ∷ ls) ≡ answer_from (status_in l) ls
@@ -98,13 +97,13 @@ status-read l ls = by-text (same_text l satisfiable_line) (same_text l unsatisfi
 pub same-signs : (table : List ℕ) → MarkedAll [] table table
 same-signs table ys s = subst (λ (zs : List ℤ). SignsOf zs table) (sym (append-nil ys)) s
 
-pub number-none : {number : ClauseNumber} {table : List ℕ} → number ≡ NotANumber → NumberRead number Malformed table table
+pub number-none : {number : Option ℤ} {table : List ℕ} → number ≡ None → NumberRead number Malformed table table
 number-none {table = table} e = record { progress-is = rw e; marked = rw e (same-signs table) }
 
-pub number-zero : {number : ClauseNumber} {table : List ℕ} (z : ℤ) → number ≡ Value z → is_zero z ≡ true → NumberRead number Complete table table
+pub number-zero : {number : Option ℤ} {table : List ℕ} (z : ℤ) → number ≡ Some z → is_zero z ≡ true → NumberRead number Complete table table
 number-zero {table = table} z e n = record { progress-is = rw (e, n); marked = rw (e, n) (same-signs table) }
 
-pub number-some : {number : ClauseNumber} {old new : List ℕ} (z : ℤ) → number ≡ Value z → is_zero z ≡ false
+pub number-some : {number : Option ℤ} {old new : List ℕ} (z : ℤ) → number ≡ Some z → is_zero z ≡ false
     → MarkedAll (z ∷ []) old new → NumberRead number Values old new
 number-some z e n m = record { progress-is = rw (e, n); marked = rw (e, n) m }
 

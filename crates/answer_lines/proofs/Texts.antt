@@ -1,13 +1,11 @@
--- Texts compared from the left, and what the first bytes of a line say. No contract cites this file.
-use Prim.Native.Nat.{ℕ, ◌+◌, ◌≤◌, ◌<◌}
+-- What the first bytes of a line say. No contract cites this file.
+use Prim.Native.Nat.{ℕ, ◌≤◌, ◌<◌}
 use mathlib.Core.Path.{◌≡◌, refl, sym, ap, ◌∙◌}
 use mathlib.Core.Bool.{Bool, true, false, ◌&&◌}
 use mathlib.Core.List.{List, [], ◌∷◌, ◌++◌}
-use native.Mathlib.Numerals.{add-one}
 use native.Mathlib.Omega.{arith}
 use lib.Dec.{eqb}
-use lib.ListN.{length, get_or, take, drop, drop_of_length-le, take-append-drop}
-use lib.Seq.{drop-cons}
+use lib.ListN.{length, get_or, take, drop, take-append-drop}
 use borrow.Author.Tests.{eq-eqb, ne_eqb}
 use Rattle.model.proofs.Booleans.{not-true-false}
 use Rattle.decimal.specs.Digits.{space}
@@ -15,25 +13,7 @@ use Rattle.decimal.specs.TextValue.{same_text}
 use Rattle.decimal.proofs.TextValue.{same_text-true}
 use Rattle.answer_lines.specs.Answer.{is_comment, comment_mark, is_marked, value_mark}
 
--- texts whose first i bytes are the same
-same_next : (a b : List ℕ) (i : ℕ) → i < length a → i < length b
-    → same_text (drop i a) (drop i b) ≡ (eqb (get_or a i 0) (get_or b i 0) && same_text (drop (i + 1) a) (drop (i + 1) b))
-unfolding same_text
-same_next a b i h k = rw (add-one, drop-cons a i 0 h, drop-cons b i 0 k)
-
-pub same_end : (a b : List ℕ) (i : ℕ) → length a ≤ i → length b ≤ i → same_text (drop i a) (drop i b) ≡ true
-unfolding same_text
-same_end a b i h k = rw (drop_of_length-le a h, drop_of_length-le b k)
-
-pub same-differ : (a b : List ℕ) (i : ℕ) → i < length a → i < length b → same_text (drop i a) (drop i b) ≡ same_text a b
-    → (get_or a i 0 ≡ get_or b i 0 → ⊥) → same_text a b ≡ false
-same-differ a b i h k e ne = sym e ∙ same_next a b i h k ∙ rw (ne_eqb (get_or a i 0) (get_or b i 0) ne)
-
-pub same_step : (a b : List ℕ) (i : ℕ) → i < length a → i < length b → same_text (drop i a) (drop i b) ≡ same_text a b
-    → get_or a i 0 ≡ get_or b i 0 → same_text (drop (i + 1) a) (drop (i + 1) b) ≡ same_text a b
-same_step a b i h k e s = sym (same_next a b i h k ∙ rw (eq-eqb (get_or a i 0) (get_or b i 0) s)) ∙ e
-
--- texts of other lengths, or with another byte in front, are not the same
+-- texts of other lengths are not the same
 pub same-lengths : (a b : List ℕ) → (length a ≡ length b → ⊥) → same_text a b ≡ false
 same-lengths a b ne = not-true-false (same_text a b) (λ h. ne (ap length (same_text-true a b h)))
 

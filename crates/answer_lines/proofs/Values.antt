@@ -8,10 +8,10 @@ use lib.IntN.{ℤ, pos, negsuc}
 use mir.Syntax.{w32}
 use mir.Val.{to_z, of_z, SFits}
 use borrow.Author.Tests.{ne_eqb}
+use Rattle.std.specs.Prelude.{Some}
 use Rattle.literals.proofs.Literal.{fits}
 use Rattle.decimal.specs.Digits.{space}
 use Rattle.decimal.specs.SignedValue.{clause_number_in}
-use Rattle.decimal.specs.declared.ClauseNumber.TheVariants.{Value}
 use Rattle.decimal.proofs.Signed.{read_back}
 use Rattle.decimal.proofs.SignedValue.{digits-clause_number_in}
 use Rattle.text_words.specs.Words.{words_of, parts_after, rest_after}
@@ -19,7 +19,7 @@ use Rattle.answer_lines.specs.Answer.{Answer, malformed, unsatisfiable, satisfia
 use Rattle.answer_lines.specs.Progress.{after_numbers}
 
 -- a number of a word is 0 where the machine's is
-module _ (s : List ℕ) (z : ℤ) (e : clause_number_in s ≡ Value z) where
+module _ (s : List ℕ) (z : ℤ) (e : clause_number_in s ≡ Some z) where
   pub word_fits : SFits w32 z
   word_fits = fits z (digits-clause_number_in s z e).1
 

@@ -6,12 +6,11 @@ use mathlib.Core.List.{List, [], ◌∷◌, ◌++◌, map, append-nil}
 use native.Mathlib.Omega.{arith}
 use lib.IntN.{ℤ, pos, negsuc, nat_abs}
 use lib.ListN.{length, drop}
+use Rattle.std.specs.Prelude.{Option, Some, None}
 use Rattle.model.proofs.Booleans.{and-true}
 use Rattle.decimal.specs.Digits.{space, line_feed, signed_digits}
 use Rattle.decimal.specs.TextValue.{same_text}
 use Rattle.decimal.specs.SignedValue.{clause_number_in}
-use Rattle.decimal.specs.declared.ClauseNumber.{ClauseNumber}
-use Rattle.decimal.specs.declared.ClauseNumber.TheVariants.{Value, NotANumber}
 use Rattle.decimal.proofs.SignedValue.{clause_number_in-digits, digits-clause_number_in}
 use Rattle.text_words.specs.Words.{lines_of, words_of, spaced, ended, Without}
 use Rattle.text_words.proofs.Words.{ended-parts, EachWithout, nothing, also, spaced-words, words-spaced, digits-without}
@@ -41,9 +40,9 @@ digits-clause_numbers (w ∷ ws) h =
     let later = digits-clause_numbers ws both.1 in
     (ap₂ (λ (x : List ℕ) (xs : List (List ℕ)). x ∷ xs) first.0 later.0, small (number_value (clause_number_in w)) (clause_numbers ws) first.1 later.1)
   where
-    of_number : (r : ClauseNumber) → clause_number_in w ≡ r → is_clause_number r ≡ true → (signed_digits (number_value r) ≡ w) × (nat_abs (number_value r) < 2 ^ 31)
-    of_number (Value z) e h = (sym (digits-clause_number_in w z e).0, (digits-clause_number_in w z e).1)
-    of_number NotANumber e h = absurd (false≢true h)
+    of_number : (r : Option ℤ) → clause_number_in w ≡ r → is_clause_number r ≡ true → (signed_digits (number_value r) ≡ w) × (nat_abs (number_value r) < 2 ^ 31)
+    of_number (Some z) e h = (sym (digits-clause_number_in w z e).0, (digits-clause_number_in w z e).1)
+    of_number None e h = absurd (false≢true h)
 
     small : (z : ℤ) (zs : List ℤ) → nat_abs z < 2 ^ 31 → Numbers zs → Numbers (z ∷ zs)
     small z zs f g zero = f
@@ -54,7 +53,7 @@ clause_numbers-digits : (zs : List ℤ) → Numbers zs → (all_clause_numbers (
 unfolding all_clause_numbers clause_numbers
 clause_numbers-digits [] h = (refl, refl)
 clause_numbers-digits (z ∷ zs) h =
-    let e : clause_number_in (signed_digits z) ≡ Value z = clause_number_in-digits z (h 0) in
+    let e : clause_number_in (signed_digits z) ≡ Some z = clause_number_in-digits z (h 0) in
     let later = clause_numbers-digits zs (λ i. h (suc i)) in
     (rw (e, later.0), rw (e, later.1))
 

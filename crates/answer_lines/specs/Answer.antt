@@ -1,11 +1,9 @@
 -- The answer that a solver's text is, by its lines and words (RULES Q1 to Q7). Cited by the scan that reads such a text and by all that is
 -- said of what a solver claims.
-use Rattle.std.specs.Prelude.{ℕ, Bool, true, false, cond, ◌&&◌, List, [], ◌∷◌, ◌++◌, map, eqb, ℤ, pos, nat_abs, take, drop}
+use Rattle.std.specs.Prelude.{Option, Some, None, ℕ, Bool, true, false, cond, ◌&&◌, List, [], ◌∷◌, ◌++◌, map, eqb, ℤ, pos, nat_abs, take, drop}
 use Rattle.decimal.specs.Digits.{space, line_feed}
 use Rattle.decimal.specs.TextValue.{same_text}
 use Rattle.decimal.specs.SignedValue.{clause_number_in}
-use Rattle.decimal.specs.declared.ClauseNumber.{ClauseNumber}
-use Rattle.decimal.specs.declared.ClauseNumber.TheVariants.{Value, NotANumber}
 use Rattle.text_words.specs.Words.{rest_after, lines_of, words_of}
 use Rattle.answer_lines.specs.declared.AnswerKind.{AnswerKind}
 use Rattle.answer_lines.specs.declared.AnswerKind.TheVariants as kinds
@@ -43,13 +41,13 @@ kept_lines [] = []
 kept_lines (l ∷ ls) = cond (is_comment l) (kept_lines ls) (l ∷ kept_lines ls)
 
 -- whether all words are numbers, and which
-abbrev pub is_clause_number : ClauseNumber → Bool
-is_clause_number (Value z) = true
-is_clause_number NotANumber = false
+abbrev pub is_clause_number : Option ℤ → Bool
+is_clause_number (Some z) = true
+is_clause_number None = false
 
-abbrev pub number_value : ClauseNumber → ℤ
-number_value (Value z) = z
-number_value NotANumber = pos 0
+abbrev pub number_value : Option ℤ → ℤ
+number_value (Some z) = z
+number_value None = pos 0
 
 unfoldable pub all_clause_numbers : List (List ℕ) → Bool
 all_clause_numbers [] = true

@@ -1,10 +1,8 @@
 -- How far an answer is read, by whole lines, and what the lines ahead make of it. Cited by the functions that read one, and by no public
 -- contract.
-use Rattle.std.specs.Prelude.{ℕ, ◌≡◌, true, cond, List, [], ◌∷◌, ◌++◌, ℤ, drop}
+use Rattle.std.specs.Prelude.{Option, Some, None, ℕ, ◌≡◌, true, cond, List, [], ◌∷◌, ◌++◌, ℤ, drop}
 use Rattle.decimal.specs.Digits.{space}
 use Rattle.decimal.specs.TextValue.{same_text}
-use Rattle.decimal.specs.declared.ClauseNumber.{ClauseNumber}
-use Rattle.decimal.specs.declared.ClauseNumber.TheVariants.{Value, NotANumber}
 use Rattle.text_words.specs.Words.{Without}
 use Rattle.answer_signs.specs.Signs.{SignsOf}
 use Rattle.answer_lines.specs.Answer.{Answer, malformed, unsatisfiable, satisfiable, satisfiable_line, unsatisfiable_line, is_marked, is_zero, values_answer, nothing_more, status_answer, kept_lines}
@@ -30,20 +28,20 @@ unfoldable pub status_in : List ℕ → Progress
 status_in l = cond (same_text l satisfiable_line) Values (cond (same_text l unsatisfiable_line) Unsatisfiable Malformed)
 
 -- what a number makes of it, and the number where it is not 0
-abbrev pub progress_by : ClauseNumber → Progress
-progress_by (Value z) = cond (is_zero z) Complete Values
-progress_by NotANumber = Malformed
+abbrev pub progress_by : Option ℤ → Progress
+progress_by (Some z) = cond (is_zero z) Complete Values
+progress_by None = Malformed
 
-abbrev pub number_by : ClauseNumber → List ℤ
-number_by (Value z) = cond (is_zero z) [] (z ∷ [])
-number_by NotANumber = []
+abbrev pub number_by : Option ℤ → List ℤ
+number_by (Some z) = cond (is_zero z) [] (z ∷ [])
+number_by None = []
 
 -- numbers were put into a table
 abbrev pub MarkedAll : List ℤ → List ℕ → List ℕ → Type 0
 MarkedAll zs old new = (ys : List ℤ) → SignsOf ys old → SignsOf (ys ++ zs) new
 
 -- a number was read
-pub record NumberRead (number : ClauseNumber) (r : Progress) (old new : List ℕ) : Type 0 where
+pub record NumberRead (number : Option ℤ) (r : Progress) (old new : List ℕ) : Type 0 where
   pub progress-is : r ≡ progress_by number
   pub marked : MarkedAll (number_by number) old new
 

@@ -8,7 +8,6 @@ ghost use Rattle.answer_lines.specs.Answer.{is_comment, is_marked};
 ghost use Rattle.answer_lines.specs.Progress.{status_in, NumberRead, OneNumber, LineRead};
 
 use answer_signs::SignTable;
-use decimal::ClauseNumber;
 
 // What an answer says.
 #[derive(Clone, Copy)]
@@ -33,41 +32,21 @@ pub enum Progress {
 fn same_text(text: &[u8], other: &[u8]) -> bool
     ensures { result ≡ same_text text.now other.now }
 {
-    if text.len() == other.len() {
-        let mut i = 0;
-        while i < text.len() {
-            if text[i] == other[i] {
-                i += 1;
-            } else {
-                return false;
-            }
-        }
-        return true;
-    }
-    false
+    text == other
 }
 
 // Whether a line that is begun is a comment.
 pub fn is_comment(line: &[u8]) -> bool
     ensures { result ≡ is_comment line.now }
 {
-    if 0 < line.len() {
-        return line[0] == b'c';
-    }
-    false
+    0 < line.len() && line[0] == b'c'
 }
 
 // Whether a line that is begun has `v` and a space in front.
 pub fn is_marked(line: &[u8]) -> bool
     ensures { result ≡ is_marked line.now }
 {
-    if 1 < line.len() {
-        if line[0] == b'v' {
-            return line[1] == b' ';
-        }
-        return false;
-    }
-    false
+    1 < line.len() && line[0] == b'v' && line[1] == b' '
 }
 
 // What a status line makes of the answer.
@@ -87,7 +66,7 @@ fn read_status(line: &[u8]) -> Progress
 pub fn read_value(signs: &mut SignTable, word: &[u8]) -> Progress
     ensures { NumberRead (clause_number_in word.now) result signs.old signs.new }
 {
-    let ClauseNumber::Value(z) = decimal::read_clause_number(word) else {
+    let Some(z) = decimal::read_clause_number(word) else {
         return Progress::Malformed;
     };
     if z == 0 {
@@ -113,8 +92,6 @@ pub fn read_line(signs: &mut SignTable, progress: Progress, line: &[u8]) -> Prog
             }
             Progress::Malformed
         }
-        Progress::Complete => Progress::Malformed,
-        Progress::Unsatisfiable => Progress::Malformed,
-        Progress::Malformed => Progress::Malformed,
+        Progress::Complete | Progress::Unsatisfiable | Progress::Malformed => Progress::Malformed,
     }
 }

@@ -7,6 +7,7 @@ use mathlib.Core.List.{List, [], ◌∷◌, ◌++◌, append_assoc, append-nil}
 use native.Mathlib.Omega.{arith}
 use lib.Dec.{eqb, ltb, leb}
 use native.Mathlib.Numerals.{add-one}
+use lib.Pointwise.{pointwise}
 use lib.ListN.{length, get_or, drop, drop_of_length-le, get_or-append}
 use lib.Seq.{drop-cons}
 use borrow.Author.Tests.{lt-ltb, ltb-true, le-leb, lt-leb, leb-true, eq-eqb, eqb-true}
@@ -30,6 +31,14 @@ same_text-true (c ∷ s) [] h = absurd (false≢true h)
 same_text-true (c ∷ s) (d ∷ t) h =
     let p = (and-true (eqb c d) (same_text s t)).0 h in
     ap₂ (λ x y. x ∷ y) (eqb-true c d p.0) (same_text-true s t p.1)
+
+-- what `==` says of two texts
+pub same_text-pointwise : (s t : List ℕ) → pointwise eqb s t ≡ same_text s t
+unfolding same_text
+same_text-pointwise [] [] = refl
+same_text-pointwise [] (d ∷ t) = refl
+same_text-pointwise (c ∷ s) [] = refl
+same_text-pointwise (c ∷ s) (d ∷ t) = ap (λ (b : Bool). eqb c d && b) (same_text-pointwise s t)
 
 -- whether a byte is a digit, and whether all bytes of a text are
 unfoldable pub is_digit : ℕ → Bool

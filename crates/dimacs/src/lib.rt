@@ -35,10 +35,8 @@ pub fn write_numbers(out: &mut [u8], numbers: &[i32], table: &[u8]) -> usize
     ensures { Wrote (clause_text numbers.now) out.old out.new result }
 {
     let mut at = 0;
-    let mut i = 0;
-    while i < numbers.len() {
-        at = write_number(out, at, numbers[i], table);
-        i += 1;
+    for &z in numbers {
+        at = write_number(out, at, z, table);
     }
     at
 }
@@ -56,14 +54,12 @@ fn clauses_fit(room: usize, numbers: &[i32]) -> bool
     ensures { result ≡ leb (length (clause_text numbers.now)) room }
 {
     let mut remaining = room;
-    let mut i = 0;
-    while i < numbers.len() {
-        let need = number_length(numbers[i]) + 1;
+    for &z in numbers {
+        let need = number_length(z) + 1;
         if remaining < need {
             return false;
         }
         remaining -= need;
-        i += 1;
     }
     true
 }

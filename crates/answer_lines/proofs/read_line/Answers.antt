@@ -3,6 +3,7 @@
 use Prim.Native.Nat.{◌-◌}
 use mathlib.Core.Path.{refl, sym, ◌∙◌}
 use mathlib.Core.List.{[]}
+use Rattle.std.proofs.Common.{inl, inr}
 use native.Mathlib.Omega.{arith}
 use lib.ListN.{length, drop, length-drop}
 use lib.Seq.{take_all}
@@ -50,19 +51,8 @@ pub returns-in-Complete : goal.returns-in-Complete
 unfolding answer_from
 returns-in-Complete c =
     let line = c.args.line.now in
-    rw c.in-Complete.is
-    (line-malformed line (sym c.is_comment.ensures ∙ c.if-is_comment.false) (λ ls. line-too-many (satisfiable []) line ls))
-
-pub returns-in-Unsatisfiable : goal.returns-in-Unsatisfiable
-unfolding answer_from
-returns-in-Unsatisfiable c =
-    let line = c.args.line.now in
-    rw c.in-Unsatisfiable.is
-    (line-malformed line (sym c.is_comment.ensures ∙ c.if-is_comment.false) (λ ls. line-too-many (unsatisfiable) line ls))
-
-pub returns-in-Malformed : goal.returns-in-Malformed
-unfolding answer_from
-returns-in-Malformed c =
-    let line = c.args.line.now in
-    rw c.in-Malformed.is
-    (line-malformed line (sym c.is_comment.ensures ∙ c.if-is_comment.false) (λ ls. refl))
+    let other = sym c.is_comment.ensures ∙ c.if-is_comment.false in
+    elim c.in-Complete.is [
+      | inl e ↦ rw e (line-malformed line other (λ ls. line-too-many (satisfiable []) line ls))
+      | inr later ↦ elim later [ inl e ↦ rw e (line-malformed line other (λ ls. line-too-many unsatisfiable line ls)) | inr e ↦ rw e (line-malformed line other (λ ls. refl)) ]
+    ]

@@ -7,7 +7,7 @@ use native.Mathlib.Omega.{arith}
 use lib.ListN.{length}
 use Rattle.decimal.specs.Digits.{minus_sign, digits, signed_digits}
 use Rattle.decimal.proofs.WroteAtEnd.{filled-before}
-use Rattle.decimal.proofs.Signed.{read_back, length-signed_digits}
+use Rattle.decimal.proofs.Signed.{read_back}
 use Rattle.text_writer.specs.Signed.{parts_of}
 use Rattle.text_writer.specs.declared.Parts.{Parts}
 use Rattle.text_writer.proofs.Signed.{length-parts, signed_digits-plain, signed_digits-minus}
@@ -42,18 +42,11 @@ returns-then-parts-eq0 c =
     signed_digits-plain c.args.z (ap (λ (p : Parts). p.sign) e ∙ c.if-parts-eq0.true) ∙ ap (λ (p : Parts). digits p.value) e in
     rw text c.fill_digits-count.ensures
 
-pub overflow_sub-before : goal.overflow_sub-before
-overflow_sub-before c = omega (arith, byte_left c, c.fill_digits-count.auto.out)
-
 pub overflow_sub-out : goal.overflow_sub-out
 overflow_sub-out c = omega (arith, byte_left c, c.fill_digits-count.auto.out)
 
 pub bounds-out-before : goal.bounds-out-before
 bounds-out-before c = omega (arith, byte_left c, c.fill_digits-count.auto.out)
-
-pub overflow_add-result : goal.overflow_add-result
-overflow_add-result c =
-    omega (arith, parts-length (goal.at.overflow_add-result c).After-parts_of-parts, c.fill_digits-count.ensures.counted, length-signed_digits c.args.z c.ranges.z)
 
 pub returns : goal.returns
 returns c =

@@ -1,20 +1,12 @@
 -- `dimacs::put_clauses` meets its contract: `clauses_fit` tests the exact length.
 
 use mathlib.Core.Path.{sym, ◌∙◌}
-use native.Mathlib.Omega.{arith}
-use borrow.Author.Tests.{leb-true, leb-false}
+use borrow.Author.Tests.{leb-false}
 use lib.ListN.{length}
 use Rattle.dimacs.specs.Text.{clause_text}
 use Rattle.dimacs.proofs.Text.{other-numbers}
 use Rattle.dimacs.proofs.PrintCalls.{written, not_written}
 use Rattle.dimacs.proofs.put_clauses.Goals as goal
-
-pub write_numbers-requires : goal.write_numbers-requires
-write_numbers-requires c = (
-  λ long. absurd (omega (arith, long)),
-  leb-true (length (clause_text c.args.numbers.now)) (length c.args.out.now)
-      (sym c.clauses_fit.ensures ∙ c.if-clauses_fit.true),
-)
 
 pub returns-then-clauses_fit : goal.returns-then-clauses_fit
 returns-then-clauses_fit c =

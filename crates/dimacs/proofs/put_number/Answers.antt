@@ -10,10 +10,6 @@ use Rattle.dimacs.proofs.Text.{number-printed}
 use Rattle.dimacs.proofs.PrintCalls.{filled, not-filled}
 use Rattle.dimacs.proofs.put_number.Goals as goal
 
-pub fill_number-requires : goal.fill_number-requires
-fill_number-requires c =
-    leb-true (length (signed_digits _)) (length c.args.out.now) (sym c.number_fits.ensures ∙ c.if-number_fits.true)
-
 pub returns-then-number_fits : goal.returns-then-number_fits
 returns-then-number_fits c =
     let z : ℤ = c.args.z in

@@ -2,14 +2,13 @@
 
 use Prim.Native.Nat.{ℕ, ◌+◌, ◌-◌, ◌≤◌}
 use mathlib.Core.List.{List, [], ◌∷◌, ◌++◌}
-use native.Mathlib.Omega.{arith}
 use borrow.Rule.Slice.PartMut.{put_mid}
 use lib.ListN.{length}
 use Rattle.decimal.specs.Digits.{digits, space, line_feed}
 use Rattle.model.specs.Wrote.{Wrote}
 use Rattle.model.proofs.Wrote.{wrote_then}
 use Rattle.dimacs.specs.Text.{problem, header_text}
-use Rattle.text_writer.proofs.Writing.{front-room, behind-within, behind-room}
+use Rattle.text_writer.proofs.Writing.{front-room, behind-room}
 use Rattle.dimacs.proofs.write_header.Goals as goal
 use Rattle.dimacs.proofs.write_header.Goals.{After-write_ended, Start}
 
@@ -43,26 +42,9 @@ pub write_word-before-requires : goal.write_word-before-requires
 write_word-before-requires c =
     front-room problem (variables (goal.at.write_word-before-requires c).Start) (length (old (goal.at.write_word-before-requires c).Start)) (room-first (goal.at.write_word-before-requires c).Start)
 
-pub slice_bounds-write_ended-count : goal.slice_bounds-write_ended-count
-slice_bounds-write_ended-count c =
-    behind-within problem (variables (goal.at.slice_bounds-write_ended-count c).Start) (old (goal.at.slice_bounds-write_ended-count c).Start) c.write_word-before.new.out c.write_word-before.result c.write_word-before.ensures (room-first (goal.at.slice_bounds-write_ended-count c).Start)
-
-pub slice_bounds-write_ended-start : goal.slice_bounds-write_ended-start
-slice_bounds-write_ended-start c = omega (arith, slice_bounds-write_ended-count c)
-
 pub write_ended-requires : goal.write_ended-requires
 write_ended-requires c =
     behind-room problem (variables (goal.at.write_ended-requires c).Start) (old (goal.at.write_ended-requires c).Start) c.write_word-before.new.out c.write_word-before.result c.write_word-before.ensures (room-first (goal.at.write_ended-requires c).Start)
-
-pub overflow_add-middle : goal.overflow_add-middle
-overflow_add-middle c = omega (arith, (both (goal.at.overflow_add-middle c).After-write_ended).counted, room-first (goal.at.overflow_add-middle c).Start)
-
-pub slice_bounds-write_ended-count-2 : goal.slice_bounds-write_ended-count-2
-slice_bounds-write_ended-count-2 c =
-    behind-within (problem ++ variables (goal.at.slice_bounds-write_ended-count-2 c).Start) (clauses (goal.at.slice_bounds-write_ended-count-2 c).Start) (old (goal.at.slice_bounds-write_ended-count-2 c).Start) _ _ (both (goal.at.slice_bounds-write_ended-count-2 c).After-write_ended) (room (goal.at.slice_bounds-write_ended-count-2 c).Start)
-
-pub slice_bounds-write_ended-start-2 : goal.slice_bounds-write_ended-start-2
-slice_bounds-write_ended-start-2 c = omega (arith, slice_bounds-write_ended-count-2 c)
 
 pub write_ended-requires-2 : goal.write_ended-requires-2
 write_ended-requires-2 c =
@@ -72,6 +54,3 @@ pub returns : goal.returns
 unfolding header_text
 returns c =
     wrote_then (problem ++ variables (goal.at.returns c).Start) (clauses (goal.at.returns c).Start) (old (goal.at.returns c).Start) _ c.write_ended-2.new.out _ c.write_ended-2.result (both (goal.at.returns c).After-write_ended) c.write_ended-2.ensures
-
-pub overflow_add-result : goal.overflow_add-result
-overflow_add-result c = omega (arith, (returns c).counted, c.requires)

@@ -6,7 +6,6 @@ use mathlib.Core.List.{[], ◌∷◌, ◌++◌}
 use native.Mathlib.Omega.{arith}
 use lib.ListN.{length, length-set}
 use Rattle.decimal.specs.Digits.{digit, space, line_feed, signed_digits}
-use Rattle.decimal.proofs.Signed.{read_back}
 use Rattle.text_writer.proofs.Writing.{extends-two}
 use Rattle.dimacs.specs.Text.{number_text}
 use Rattle.dimacs.proofs.Text.{number_text-zero, behind-other}
@@ -18,17 +17,8 @@ room : (c : Then-z-eq0) → c.args.at + 2 ≤ length c.args.out.now
 room c =
     rw (number_text-zero c.args.z c.ranges.z c.if-z-eq0.true) at c.requires.1
 
-pub overflow_add-next : goal.overflow_add-next
-overflow_add-next c = omega (arith, room c)
-
-pub bounds-out-at : goal.bounds-out-at
-bounds-out-at c = omega (arith, room c)
-
 pub bounds-out-next : goal.bounds-out-next
 bounds-out-next c = simp length-set (omega (arith, room c))
-
-pub overflow_add-result : goal.overflow_add-result
-overflow_add-result c = omega (arith, room c)
 
 pub returns-then-z-eq0 : goal.returns-then-z-eq0
 returns-then-z-eq0 c =
@@ -37,11 +27,3 @@ returns-then-z-eq0 c =
 -- any other number has a space behind it
 spaced : (c : Else-z-eq0) → number_text c.args.z ≡ signed_digits c.args.z ++ space ∷ []
 spaced c = rw (behind-other c.args.z c.if-z-eq0.false)
-
-pub write_signed_spaced-requires : goal.write_signed_spaced-requires
-write_signed_spaced-requires c =
-    (c.requires.0, rw (read_back c.args.z c.ranges.z) (rw (spaced (goal.at.write_signed_spaced-requires c).Else-z-eq0) at c.requires.1))
-
-pub returns : goal.returns
-returns c =
-    rw (spaced (goal.at.returns c).Else-z-eq0) (rw (read_back c.args.z c.ranges.z) at c.write_signed_spaced.ensures)

@@ -10,7 +10,7 @@ use Rattle.model.specs.Wrote.{Wrote}
 use Rattle.decimal.proofs.Digits.{length-field}
 use Rattle.model.proofs.Wrote.{wrote_then}
 use Rattle.dimacs.specs.Text.{refused, refusal_text}
-use Rattle.text_writer.proofs.Writing.{front-room, behind-within, behind-room}
+use Rattle.text_writer.proofs.Writing.{front-room, behind-room}
 use Rattle.dimacs.proofs.write_refusal.Goals as goal
 use Rattle.dimacs.proofs.write_refusal.Goals.{After-put_field, After-put_field-2, Start}
 
@@ -56,40 +56,13 @@ pub write_word-before-requires : goal.write_word-before-requires
 write_word-before-requires c =
     front-room refused (number (goal.at.write_word-before-requires c).Start) (length (old (goal.at.write_word-before-requires c).Start)) (room-number (goal.at.write_word-before-requires c).Start)
 
-pub slice_bounds-put_field-count : goal.slice_bounds-put_field-count
-slice_bounds-put_field-count c =
-    behind-within refused (number (goal.at.slice_bounds-put_field-count c).Start) (old (goal.at.slice_bounds-put_field-count c).Start) c.write_word-before.new.out c.write_word-before.result c.write_word-before.ensures (room-number (goal.at.slice_bounds-put_field-count c).Start)
-
-pub slice_bounds-put_field-start : goal.slice_bounds-put_field-start
-slice_bounds-put_field-start c = omega (arith, slice_bounds-put_field-count c)
-
 pub put_field-requires : goal.put_field-requires
 put_field-requires c =
     omega (arith, length-field c.args.number c.ranges.number.fits, behind-room refused (number (goal.at.put_field-requires c).Start) (old (goal.at.put_field-requires c).Start) c.write_word-before.new.out c.write_word-before.result c.write_word-before.ensures (room-number (goal.at.put_field-requires c).Start))
 
-pub overflow_add-middle : goal.overflow_add-middle
-overflow_add-middle c = omega (arith, (numbered (goal.at.overflow_add-middle c).After-put_field).counted, room-number (goal.at.overflow_add-middle c).Start)
-
-pub slice_bounds-put_field-count-2 : goal.slice_bounds-put_field-count-2
-slice_bounds-put_field-count-2 c =
-    behind-within (refused ++ number (goal.at.slice_bounds-put_field-count-2 c).Start) (place (goal.at.slice_bounds-put_field-count-2 c).Start) (old (goal.at.slice_bounds-put_field-count-2 c).Start) _ _ (numbered (goal.at.slice_bounds-put_field-count-2 c).After-put_field) (room-place (goal.at.slice_bounds-put_field-count-2 c).Start)
-
-pub slice_bounds-put_field-start-2 : goal.slice_bounds-put_field-start-2
-slice_bounds-put_field-start-2 c = omega (arith, slice_bounds-put_field-count-2 c)
-
 pub put_field-requires-2 : goal.put_field-requires-2
 put_field-requires-2 c =
     omega (arith, length-field c.args.place c.ranges.place.fits, behind-room (refused ++ number (goal.at.put_field-requires-2 c).Start) (place (goal.at.put_field-requires-2 c).Start) (old (goal.at.put_field-requires-2 c).Start) _ _ (numbered (goal.at.put_field-requires-2 c).After-put_field) (room-place (goal.at.put_field-requires-2 c).Start))
-
-pub overflow_add-end : goal.overflow_add-end
-overflow_add-end c = omega (arith, (placed (goal.at.overflow_add-end c).After-put_field-2).counted, room-place (goal.at.overflow_add-end c).Start)
-
-pub slice_bounds-write_byte-count : goal.slice_bounds-write_byte-count
-slice_bounds-write_byte-count c =
-    behind-within (refused ++ number (goal.at.slice_bounds-write_byte-count c).Start ++ place (goal.at.slice_bounds-write_byte-count c).Start) (line_feed ∷ []) (old (goal.at.slice_bounds-write_byte-count c).Start) _ _ (placed (goal.at.slice_bounds-write_byte-count c).After-put_field-2) (room (goal.at.slice_bounds-write_byte-count c).Start)
-
-pub slice_bounds-write_byte-start : goal.slice_bounds-write_byte-start
-slice_bounds-write_byte-start c = omega (arith, slice_bounds-write_byte-count c)
 
 pub write_byte-requires : goal.write_byte-requires
 write_byte-requires c =
@@ -99,6 +72,3 @@ pub returns : goal.returns
 unfolding refusal_text
 returns c =
     wrote_then (refused ++ number (goal.at.returns c).Start ++ place (goal.at.returns c).Start) (line_feed ∷ []) (old (goal.at.returns c).Start) _ c.write_byte.new.out _ c.write_byte.result (placed (goal.at.returns c).After-put_field-2) c.write_byte.ensures
-
-pub overflow_add-result : goal.overflow_add-result
-overflow_add-result c = omega (arith, (returns c).counted, c.requires)
