@@ -36,11 +36,8 @@ pub fn deliver_latches(codes: &UnpackedList, count: u32, list: &mut [LatchEntry]
     requires { (count ≤ 600) × (count ≤ length list.old) }
     ensures { list.new ≡ delivered count (latch_at codes.now) list.old }
 {
-    let end = count as usize;
-    let mut l = 0;
-    while l < end {
+    for l in 0..count as usize {
         list[l] = latch_at(codes, l);
-        l += 1;
     }
 }
 
@@ -49,10 +46,7 @@ pub fn deliver_gates(codes: &UnpackedList, count: u32, list: &mut [GateEntry])
     requires { (count ≤ 600) × (count ≤ length list.old) }
     ensures { list.new ≡ delivered count (gate_at codes.now) list.old }
 {
-    let end = count as usize;
-    let mut g = 0;
-    while g < end {
+    for g in 0..count as usize {
         list[g] = gate_at(codes, g);
-        g += 1;
     }
 }

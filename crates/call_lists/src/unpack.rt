@@ -13,7 +13,7 @@ use netlist::UnpackedList;
 pub(crate) fn span(count: usize) -> usize
     ensures { result ≡ span_of count }
 {
-    if count < 600 { count } else { 600 }
+    count.min(600)
 }
 
 // Reads gate g and hands its two codes on.
@@ -38,11 +38,8 @@ fn unpack_latch(codes: &mut UnpackedList, latches: &[LatchEntry], l: usize)
 pub fn unpack_gates(codes: &mut UnpackedList, gates: &[GateEntry])
     ensures { codes.new ≡ over (gate_codes gates.now) codes.old }
 {
-    let end = span(gates.len());
-    let mut g = 0;
-    while g < end {
+    for g in 0..span(gates.len()) {
         unpack_gate(codes, gates, g);
-        g = g + 1;
     }
 }
 
@@ -50,10 +47,7 @@ pub fn unpack_gates(codes: &mut UnpackedList, gates: &[GateEntry])
 pub fn unpack_latches(codes: &mut UnpackedList, latches: &[LatchEntry])
     ensures { codes.new ≡ over (latch_codes latches.now) codes.old }
 {
-    let end = span(latches.len());
-    let mut l = 0;
-    while l < end {
+    for l in 0..span(latches.len()) {
         unpack_latch(codes, latches, l);
-        l = l + 1;
     }
 }

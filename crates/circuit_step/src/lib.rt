@@ -92,10 +92,8 @@ fn put_latches(values: &WireValues, net: Netlist, latches: &UnpackedList, state:
     ensures { (length state.new ≡ 600) × ((l : ℕ) → l < net.latches
         → entry state.new l ≡ code_value (entry values.now) ((net_of net latches.now []).next l)) }
 {
-    let mut l: usize = 0;
-    while l < net.latches as usize {
+    for l in 0..net.latches as usize {
         state[l] = circuit_values::code_value(values, Code(latches[2 * l]));
-        l += 1;
     }
 }
 

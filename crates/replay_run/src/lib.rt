@@ -67,11 +67,7 @@ pub fn fill_words(memory: &mut [u32], count: usize, word: u32)
     requires { count ≤ length memory.old }
     ensures { memory.new ≡ delivered count (λ _. word) memory.old }
 {
-    let mut x: usize = 0;
-    while x < count {
-        memory[x] = word;
-        x += 1;
-    }
+    memory[..count].fill(word);
 }
 
 // Puts each latch at its reset.
@@ -80,10 +76,8 @@ fn put_resets(state: &mut SourceValues, net: Netlist, latches: &UnpackedList)
     ensures { (length state.new ≡ 600)
         × ((l : ℕ) → l < net.latches → entry state.new l ≡ eqb ((net_of net latches.now []).reset l) 1) }
 {
-    let mut l: usize = 0;
-    while l < net.latches as usize {
+    for l in 0..net.latches as usize {
         state[l] = latches[2 * l + 1] == 1;
-        l += 1;
     }
 }
 
@@ -180,8 +174,7 @@ pub fn run(
     let mut fault = false;
     let mut first: u32 = 0;
     let mut at: usize = 0;
-    let mut i: u32 = 0;
-    while i <= depth {
+    for i in 0..=depth {
         let ran = run_frame(
             &mut values,
             &mut inputs,
@@ -197,10 +190,9 @@ pub fn run(
             held,
         );
         held = ran.held;
-        fault = fault | ran.shown.fault;
+        fault |= ran.shown.fault;
         first = next_first(first, i, ran.shown.broken);
         at += line;
-        i += 1;
     }
     RunVerdict { fault, first }
 }

@@ -1,6 +1,6 @@
 -- `circuit_step::put_latches` meets its contract. The loop's invariant: the first l latches are stepped.
 
-use Prim.Native.Nat.{ℕ, ◌-◌, ◌≤◌, ◌<◌}
+use Prim.Native.Nat.{ℕ, ◌<◌}
 use mathlib.Core.Path.{◌≡◌}
 use lib.ListN.{length}
 use Rattle.model.specs.Circuit.{code_value}
@@ -10,7 +10,4 @@ use Rattle.circuit_step.proofs.put_latches.Given as goal
 
 abbrev pub invariant-loop-l : goal.invariant-loop-l
 invariant-loop-l lo =
-    (lo.l ≤ lo.net.latches) × (length lo.state ≡ 600) × ((x : ℕ) → x < lo.l → entry lo.state x ≡ code_value (entry lo.values) (first_at lo.latches x))
-
-abbrev pub decreases-loop-l : goal.decreases-loop-l
-decreases-loop-l lo = lo.net.latches - lo.l
+    (length lo.state ≡ 600) × ((x : ℕ) → x < lo.l → entry lo.state x ≡ code_value (entry lo.values) (first_at lo.latches x))

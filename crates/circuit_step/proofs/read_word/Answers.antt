@@ -22,9 +22,6 @@ unfolding net_of
 returns-then-is_reading c =
     λ t h. rw (read_data-port (alone c.args.net) c.args.port_number c.requires.2 _ (entry c.args.values.now) t h, sym c.is_reading.ensures ∙ c.if-is_reading.true, c.address_of-address.ensures)
 
-pub overflow_sub-own : goal.overflow_sub-own
-overflow_sub-own c = omega (arith, c.requires.2.0)
-
 pub overflow_mul-own : goal.overflow_mul-own
 unfolding net_of
 overflow_mul-own c = omega (arith, first-read-most (alone c.args.net) c.args.port_number c.requires.2 c.requires.0.sizes, c.requires.0.sizes.n-most)

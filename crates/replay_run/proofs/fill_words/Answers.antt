@@ -1,41 +1,23 @@
--- `replay_run::fill_words` meets its contract. The loop's invariant: the first x words are filled.
+-- `replay_run::fill_words` meets its contract: so many words are the one, and the rest is as it was.
 
-use mathlib.Core.Path.{◌≡◌, refl, sym}
-use native.Mathlib.Numerals.{add-one}
+use Prim.Native.Nat.{ℕ}
+use mathlib.Core.Path.{◌≡◌, ◌∙◌}
+use mathlib.Core.List.{List, ◌++◌}
 use native.Mathlib.Omega.{arith}
-use lib.ListN.{length-set}
-use Rattle.call_lists.proofs.Delivered.{delivered-none, delivered-next}
+use lib.ListN.{drop, replicate, length-replicate, get_or-replicate, length-append}
+use Rattle.std.proofs.lemmas.List.{get_or_append_left, length-take-le}
+use Rattle.std.proofs.lemmas.Slice.{drop-append-drop}
+use Rattle.call_lists.specs.Delivered.{delivered}
+use Rattle.call_lists.proofs.Delivered.{delivered-by}
 use Rattle.replay_run.proofs.fill_words.Goals as goal
 
-pub loop-x-init : goal.loop-x-init
-loop-x-init c =
-    (omega arith, refl, sym (delivered-none _ _))
-
-pub offset_bounds-memory-x : goal.offset_bounds-memory-x
-offset_bounds-memory-x c =
-    omega (arith, c.loop-x.invariant.1)
-
-pub bounds-memory-x : goal.bounds-memory-x
-bounds-memory-x c =
-    omega (arith, c.loop-x.invariant.1)
-
-pub overflow_add-x : goal.overflow_add-x
-overflow_add-x c = omega arith
-
-pub loop-x-smaller : goal.loop-x-smaller
-loop-x-smaller c = omega arith
-
-pub loop-x-preserved : goal.loop-x-preserved
-loop-x-preserved c = (
-  omega arith,
-  simp length-set c.loop-x.invariant.1,
-  rw (c.loop-x.invariant.2, add-one) (delivered-next (λ _. c.args.word) c.args.memory.now c.loop-x.x (omega arith)),
-)
-
-pub shape_of-memory : goal.shape_of-memory
-shape_of-memory c =
-    c.loop-x.invariant.1
+filled : (n word : ℕ) (old : List ℕ) → replicate n word ++ drop n old ≡ delivered n (λ _. word) old
+filled n word old =
+    delivered-by (λ _. word) n old (replicate n word ++ drop n old)
+    (omega (arith, length-append (replicate n word) (drop n old), length-replicate n word))
+    (λ x b. get_or_append_left (replicate n word) (drop n old) 0 x (omega (arith, length-replicate n word)) ∙ get_or-replicate n x word 0 b)
+    (drop-append-drop n old (replicate n word) n (omega arith) (length-replicate n word))
 
 pub returns : goal.returns
 returns c =
-    let all : c.loop-x.x ≡ c.args.count = omega arith in rw all at c.loop-x.invariant.2
+    rw (c.fill.ensures.after (λ y e. e), length-take-le c.args.count c.args.memory.now c.requires) (filled c.args.count c.args.word c.args.memory.now)

@@ -9,27 +9,7 @@ use Rattle.replay_run.proofs.put_resets.Goals as goal
 
 pub loop-l-init : goal.loop-l-init
 loop-l-init c =
-    (omega arith, c.requires.1, λ x h. absurd (omega arith))
-
-pub overflow_cast-net : goal.overflow_cast-net
-unfolding net_of
-overflow_cast-net c =
-    omega (arith, c.requires.0)
-
-pub overflow_mul-state : goal.overflow_mul-state
-unfolding net_of
-overflow_mul-state c =
-    omega (arith, c.requires.0)
-
-pub overflow_add-state : goal.overflow_add-state
-unfolding net_of
-overflow_add-state c =
-    omega (arith, c.requires.0)
-
-pub offset_bounds-latches-l : goal.offset_bounds-latches-l
-unfolding net_of
-offset_bounds-latches-l c =
-    omega (arith, c.requires.0)
+    (c.requires.1, λ x h. absurd (omega arith))
 
 pub bounds-latches-l : goal.bounds-latches-l
 unfolding net_of
@@ -41,26 +21,15 @@ unfolding net_of
 bounds-state-l c =
     omega (arith, c.requires.0)
 
-pub overflow_add-l : goal.overflow_add-l
-unfolding net_of
-overflow_add-l c =
-    omega (arith, c.requires.0)
-
-pub loop-l-smaller : goal.loop-l-smaller
-unfolding net_of
-loop-l-smaller c =
-    omega (arith, c.requires.0)
-
 pub loop-l-preserved : goal.loop-l-preserved
 unfolding net_of
 loop-l-preserved c = (
-  omega arith,
-  simp length-set c.loop-l.invariant.1,
-  set_next c.loop-l.state (omega (arith, c.requires.0)) c.loop-l.invariant.1 c.loop-l.invariant.2 refl,
+  simp length-set c.loop-l.invariant.0,
+  set_next c.loop-l.state (omega (arith, c.requires.0)) c.loop-l.invariant.0 c.loop-l.invariant.1 refl,
 )
 
 pub returns : goal.returns
 unfolding net_of
 returns c =
     let all : c.loop-l.l ≡ c.args.net.latches = omega arith in
-    (c.loop-l.invariant.1, λ l h. c.loop-l.invariant.2 l (omega arith))
+    (c.loop-l.invariant.0, λ l h. c.loop-l.invariant.1 l (omega arith))

@@ -1,13 +1,15 @@
 -- `call_lists::unpack::span` meets its contract, at each side of 600.
 
+use mathlib.Core.Logic.{by_cases}
+use native.Mathlib.Decide.{dec_lt}
+use native.Mathlib.Omega.{arith}
 use borrow.Author.Tests.{lt-ltb, le-ltb}
 use Rattle.call_lists.specs.Unpacking.{span_of}
 use Rattle.call_lists.proofs.unpack.span.Goals as goal
 
-pub returns-then-count-lt600 : goal.returns-then-count-lt600
+pub returns : goal.returns
 unfolding span_of
-returns-then-count-lt600 c = rw (lt-ltb _ _ c.if-count-lt600.true)
-
-pub returns-else-count-lt600 : goal.returns-else-count-lt600
-unfolding span_of
-returns-else-count-lt600 c = rw (le-ltb _ _ c.if-count-lt600.false)
+returns c =
+    by_cases (dec_lt c.args.count 600)
+    (λ l. rw (lt-ltb c.args.count 600 l) (omega (arith, c.min.ensures)))
+    (λ l. rw (le-ltb c.args.count 600 (omega arith)) (omega (arith, c.min.ensures)))

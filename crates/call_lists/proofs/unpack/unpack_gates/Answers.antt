@@ -7,33 +7,24 @@ use Rattle.call_lists.proofs.Unpacked.{unpacked_to, unpacked_to-none, unpacked_t
 use Rattle.call_lists.proofs.unpack.unpack_gates.Goals as goal
 
 pub loop-g-init : goal.loop-g-init
-loop-g-init c = record {
-  within = omega arith;
-  so_far = sym (unpacked_to-none (λ (x : GateEntry). x.left.0) (λ (x : GateEntry). x.right.0) c.args.gates.now c.args.codes.now);
-}
+loop-g-init c = sym (unpacked_to-none (λ (x : GateEntry). x.left.0) (λ (x : GateEntry). x.right.0) c.args.gates.now c.args.codes.now)
 
 pub unpack_gate-requires : goal.unpack_gate-requires
 unpack_gate-requires c =
     let w = span-within (length c.args.gates.now) in
-    let t = rw c.span-end.ensures at c.loop-g-test.true in
-    (omega arith, omega arith)
+    (omega (arith, c.span-g-end.ensures), omega (arith, c.span-g-end.ensures))
 
 pub loop-g-preserved : goal.loop-g-preserved
 loop-g-preserved c =
     let w = span-within (length c.args.gates.now) in
-    let t = rw c.span-end.ensures at c.loop-g-test.true in
-    record {
-      within = omega arith;
-      so_far =
-          rw (c.unpack_gate.ensures, c.loop-g.invariant.so_far)
-          (unpacked_to-next (λ (x : GateEntry). x.left.0) (λ (x : GateEntry). x.right.0) c.args.gates.now no_gate c.args.codes.now c.loop-g.g
-          (omega arith) (omega (arith, c.told-codes)));
-    }
+    rw (c.unpack_gate.ensures, c.loop-g.invariant)
+    (unpacked_to-next (λ (x : GateEntry). x.left.0) (λ (x : GateEntry). x.right.0) c.args.gates.now no_gate c.args.codes.now c.loop-g.g
+    (omega (arith, c.span-g-end.ensures)) (omega (arith, c.told-codes)))
 
 pub returns : goal.returns
 unfolding gate_codes
 returns c =
-    let all : c.loop-g.g ≡ span_of (length c.args.gates.now) = omega (arith, c.span-end.ensures) in
-    c.loop-g.invariant.so_far
+    let all : c.loop-g.g ≡ span_of (length c.args.gates.now) = omega (arith, c.span-g-end.ensures) in
+    c.loop-g.invariant
     ∙ ap (unpacked_to (λ (x : GateEntry). x.left.0) (λ (x : GateEntry). x.right.0) c.args.gates.now c.args.codes.now) all
     ∙ unpacked_to-all (λ (x : GateEntry). x.left.0) (λ (x : GateEntry). x.right.0) c.args.gates.now c.args.codes.now

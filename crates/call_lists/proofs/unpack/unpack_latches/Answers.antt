@@ -7,33 +7,24 @@ use Rattle.call_lists.proofs.Unpacked.{unpacked_to, unpacked_to-none, unpacked_t
 use Rattle.call_lists.proofs.unpack.unpack_latches.Goals as goal
 
 pub loop-l-init : goal.loop-l-init
-loop-l-init c = record {
-  within = omega arith;
-  so_far = sym (unpacked_to-none (λ (x : LatchEntry). x.next.0) (λ (x : LatchEntry). x.reset) c.args.latches.now c.args.codes.now);
-}
+loop-l-init c = sym (unpacked_to-none (λ (x : LatchEntry). x.next.0) (λ (x : LatchEntry). x.reset) c.args.latches.now c.args.codes.now)
 
 pub unpack_latch-requires : goal.unpack_latch-requires
 unpack_latch-requires c =
     let w = span-within (length c.args.latches.now) in
-    let t = rw c.span-end.ensures at c.loop-l-test.true in
-    (omega arith, omega arith)
+    (omega (arith, c.span-l-end.ensures), omega (arith, c.span-l-end.ensures))
 
 pub loop-l-preserved : goal.loop-l-preserved
 loop-l-preserved c =
     let w = span-within (length c.args.latches.now) in
-    let t = rw c.span-end.ensures at c.loop-l-test.true in
-    record {
-      within = omega arith;
-      so_far =
-          rw (c.unpack_latch.ensures, c.loop-l.invariant.so_far)
-          (unpacked_to-next (λ (x : LatchEntry). x.next.0) (λ (x : LatchEntry). x.reset) c.args.latches.now no_latch c.args.codes.now c.loop-l.l
-          (omega arith) (omega (arith, c.told-codes)));
-    }
+    rw (c.unpack_latch.ensures, c.loop-l.invariant)
+    (unpacked_to-next (λ (x : LatchEntry). x.next.0) (λ (x : LatchEntry). x.reset) c.args.latches.now no_latch c.args.codes.now c.loop-l.l
+    (omega (arith, c.span-l-end.ensures)) (omega (arith, c.told-codes)))
 
 pub returns : goal.returns
 unfolding latch_codes
 returns c =
-    let all : c.loop-l.l ≡ span_of (length c.args.latches.now) = omega (arith, c.span-end.ensures) in
-    c.loop-l.invariant.so_far
+    let all : c.loop-l.l ≡ span_of (length c.args.latches.now) = omega (arith, c.span-l-end.ensures) in
+    c.loop-l.invariant
     ∙ ap (unpacked_to (λ (x : LatchEntry). x.next.0) (λ (x : LatchEntry). x.reset) c.args.latches.now c.args.codes.now) all
     ∙ unpacked_to-all (λ (x : LatchEntry). x.next.0) (λ (x : LatchEntry). x.reset) c.args.latches.now c.args.codes.now
