@@ -35,6 +35,7 @@ fn put_initial_bit(
 }
 
 // The clauses of each data bit, in bit order.
+#[tactic(auto, unfolding(netlist::specs::NetOf::net_of, clause_variables::specs::PortOf::port_of))]
 fn put_initial_reads(out: &mut [i32], net: Netlist, port: Port, i: u32) -> usize
     requires { ClosingFits net port i × (net.n * 8 ≤ length out.old) }
     ensures { Wrote (written (gather net.n (initial_read_clauses net.initial_word (of_closing net port i))))
@@ -45,20 +46,16 @@ fn put_initial_reads(out: &mut [i32], net: Netlist, port: Port, i: u32) -> usize
     let first = netlist::first_read_wire(net);
     let read = port.first_read;
     let word = net.initial_word;
-    let n = net.n;
-    let mut at: usize = 0;
-    let mut t: u32 = 0;
-    while t < n {
-        at = at
-            + put_initial_bit(
-                &mut out[at..],
-                none_since,
-                reading,
-                first.offset(read + t),
-                word,
-                t,
-            );
-        t = t + 1;
+    let mut at = 0;
+    for t in 0..net.n {
+        at += put_initial_bit(
+            &mut out[at..],
+            none_since,
+            reading,
+            first.offset(read + t),
+            word,
+            t,
+        );
     }
     at
 }
@@ -87,6 +84,7 @@ fn put_held_bit(out: &mut [i32], idle: Term, reading: u32, before: u32, rd: Wire
 }
 
 // The clauses of each data bit of a frame above 0, in bit order.
+#[tactic(auto, unfolding(netlist::specs::NetOf::net_of, clause_variables::specs::PortOf::port_of))]
 fn put_held_reads(out: &mut [i32], net: Netlist, port: Port, i: u32) -> usize
     requires { ClosingFits net port i × (1 ≤ i) × (net.n * 8 ≤ length out.old) }
     ensures { Wrote (written (gather net.n (held_clauses (of_closing net port i))))
@@ -97,19 +95,15 @@ fn put_held_reads(out: &mut [i32], net: Netlist, port: Port, i: u32) -> usize
     let idle = port.re.in_frame(reading).negated();
     let first = netlist::first_read_wire(net);
     let read = port.first_read;
-    let n = net.n;
-    let mut at: usize = 0;
-    let mut t: u32 = 0;
-    while t < n {
-        at = at
-            + put_held_bit(
-                &mut out[at..],
-                idle,
-                reading,
-                before,
-                first.offset(read + t),
-            );
-        t = t + 1;
+    let mut at = 0;
+    for t in 0..net.n {
+        at += put_held_bit(
+            &mut out[at..],
+            idle,
+            reading,
+            before,
+            first.offset(read + t),
+        );
     }
     at
 }
@@ -127,6 +121,7 @@ fn put_held(out: &mut [i32], net: Netlist, port: Port, i: u32) -> usize
 }
 
 // S of each earlier frame, in ascending order.
+#[tactic(auto, unfolding(netlist::specs::NetOf::net_of, clause_variables::specs::PortOf::port_of))]
 fn put_sources(out: &mut [i32], net: Netlist, port: Port, i: u32) -> usize
     requires { ClosingFits net port i × (i ≤ length out.old) }
     ensures { Wrote (kept (gather i (selected_of (of_closing net port i))))
@@ -136,12 +131,10 @@ fn put_sources(out: &mut [i32], net: Netlist, port: Port, i: u32) -> usize
     let numbering = clause_variables::numbering(net);
     let stride = numbering.stride;
     let offset = net.m + 4;
-    let mut at: usize = 0;
-    let mut j: u32 = 0;
-    while j < i {
+    let mut at = 0;
+    for j in 0..i {
         let selected = Term::in_pair(q + j * stride, offset);
-        at = at + clause_writer::put_literal(&mut out[at..], selected);
-        j = j + 1;
+        at += clause_writer::put_literal(&mut out[at..], selected);
     }
     at
 }

@@ -36,6 +36,7 @@ fn put_forwarded_bit(
 }
 
 // The clauses of each data bit, in bit order.
+#[tactic(auto, unfolding(netlist::specs::NetOf::net_of, clause_variables::specs::PortOf::port_of))]
 fn put_forwarded(out: &mut [i32], net: Netlist, port: Port, j: u32, i: u32) -> usize
     requires { PairFits net port j i × (net.n * 8 ≤ length out.old) }
     ensures { Wrote (written (gather net.n (forwarded_clauses (of_pair net port j i))))
@@ -46,21 +47,17 @@ fn put_forwarded(out: &mut [i32], net: Netlist, port: Port, j: u32, i: u32) -> u
     let reading = clause_variables::frame_base(net, i);
     let first = netlist::first_read_wire(net);
     let read = port.first_read;
-    let n = net.n;
-    let mut at: usize = 0;
-    let mut t: u32 = 0;
-    while t < n {
+    let mut at = 0;
+    for t in 0..net.n {
         let wd = net.write_data[t as usize];
-        at = at
-            + put_forwarded_bit(
-                &mut out[at..],
-                selected,
-                reading,
-                first.offset(read + t),
-                writing,
-                wd,
-            );
-        t = t + 1;
+        at += put_forwarded_bit(
+            &mut out[at..],
+            selected,
+            reading,
+            first.offset(read + t),
+            writing,
+            wd,
+        );
     }
     at
 }
@@ -106,6 +103,7 @@ fn put_agreed_bit(
 }
 
 // The clauses of each data bit where the start is unknown, in bit order.
+#[tactic(auto, unfolding(netlist::specs::NetOf::net_of, clause_variables::specs::PortOf::port_of))]
 fn put_agreed_reads(out: &mut [i32], net: Netlist, port: Port, j: u32, i: u32) -> usize
     requires { PairFits net port j i × (net.n * 12 ≤ length out.old) }
     ensures { Wrote (written (gather net.n (agreed_clauses (of_pair net port j i))))
@@ -119,21 +117,17 @@ fn put_agreed_reads(out: &mut [i32], net: Netlist, port: Port, j: u32, i: u32) -
     let reading = clause_variables::frame_base(net, i);
     let first = netlist::first_read_wire(net);
     let read = port.first_read;
-    let n = net.n;
-    let mut at: usize = 0;
-    let mut t: u32 = 0;
-    while t < n {
-        at = at
-            + put_agreed_bit(
-                &mut out[at..],
-                address_equal,
-                earlier,
-                later,
-                reading,
-                before,
-                first.offset(read + t),
-            );
-        t = t + 1;
+    let mut at = 0;
+    for t in 0..net.n {
+        at += put_agreed_bit(
+            &mut out[at..],
+            address_equal,
+            earlier,
+            later,
+            reading,
+            before,
+            first.offset(read + t),
+        );
     }
     at
 }

@@ -41,6 +41,7 @@ fn put_address_bit(
 }
 
 // The clauses of each address bit, in bit order.
+#[tactic(auto, unfolding(netlist::specs::NetOf::net_of, clause_variables::specs::PortOf::port_of))]
 pub fn put_address_bits(out: &mut [i32], net: Netlist, port: Port, j: u32, i: u32) -> usize
     requires { PairFits net port j i × (net.m * 16 ≤ length out.old) }
     ensures { Wrote (written (gather net.m (address_bit_clauses (of_pair net port j i))))
@@ -49,32 +50,27 @@ pub fn put_address_bits(out: &mut [i32], net: Netlist, port: Port, j: u32, i: u3
     let q = clause_variables::pair_base(net, port, j, i);
     let writing = clause_variables::frame_base(net, j);
     let reading = clause_variables::frame_base(net, i);
-    let m = net.m;
-    let mut at: usize = 0;
-    let mut t: u32 = 0;
-    while t < m {
+    let mut at = 0;
+    for t in 0..net.m {
         let x = net.address[t as usize];
         let y = port.address[t as usize];
-        at = at + put_address_bit(&mut out[at..], q, t, writing, x, reading, y);
-        t = t + 1;
+        at += put_address_bit(&mut out[at..], q, t, writing, x, reading, y);
     }
     at
 }
 
 // ¬e of each address bit, in bit order.
+#[tactic(auto, unfolding(netlist::specs::NetOf::net_of, clause_variables::specs::PortOf::port_of))]
 fn put_unequal_bits(out: &mut [i32], net: Netlist, port: Port, j: u32, i: u32) -> usize
     requires { PairFits net port j i × (net.m ≤ length out.old) }
     ensures { Wrote (kept (gather net.m (unequal_of (of_pair net port j i))))
         out.old out.new result × (result ≤ net.m) }
 {
     let q = clause_variables::pair_base(net, port, j, i);
-    let m = net.m;
-    let mut at: usize = 0;
-    let mut t: u32 = 0;
-    while t < m {
+    let mut at = 0;
+    for t in 0..net.m {
         let bit_equal = Term::in_pair(q, 2 + t);
-        at = at + clause_writer::put_literal(&mut out[at..], bit_equal.negated());
-        t = t + 1;
+        at += clause_writer::put_literal(&mut out[at..], bit_equal.negated());
     }
     at
 }

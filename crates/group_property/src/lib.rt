@@ -16,6 +16,7 @@ ghost use Rattle.model.specs.Wrote.{Wrote};
 use netlist::Netlist;
 
 // ¬P of each frame from 0 to k.
+#[tactic(auto, unfolding(netlist::specs::NetOf::net_of))]
 fn put_violations(out: &mut [i32], net: Netlist, k: u32) -> usize
     requires { FrameFits (alone net) k × (k + 1 ≤ length out.old) }
     ensures { Wrote (kept (gather (k + 1) (violation_of (alone net))))
@@ -23,12 +24,10 @@ fn put_violations(out: &mut [i32], net: Netlist, k: u32) -> usize
 {
     let numbering = clause_variables::numbering(net);
     let p = net.p;
-    let mut at: usize = 0;
-    let mut i: u32 = 0;
-    while i < k + 1 {
+    let mut at = 0;
+    for i in 0..k + 1 {
         let property = p.in_frame(numbering.base(i));
-        at = at + clause_writer::put_literal(&mut out[at..], property.negated());
-        i = i + 1;
+        at += clause_writer::put_literal(&mut out[at..], property.negated());
     }
     at
 }

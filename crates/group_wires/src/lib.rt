@@ -28,6 +28,7 @@ fn put_gate(out: &mut [i32], b: u32, g: Wire, left: Code, right: Code) -> usize
 }
 
 // Each gate in frame i, in wire order.
+#[tactic(auto, unfolding(netlist::specs::NetOf::net_of))]
 fn put_gates(out: &mut [i32], net: Netlist, gates: &UnpackedList, i: u32) -> usize
     requires { FrameFits (net_of net [] gates.now) i × (net.gates * 10 ≤ length out.old) }
     ensures { Wrote (written (gather net.gates (gate_clauses (net_of net [] gates.now) i)))
@@ -35,14 +36,11 @@ fn put_gates(out: &mut [i32], net: Netlist, gates: &UnpackedList, i: u32) -> usi
 {
     let b = clause_variables::frame_base(net, i);
     let first = netlist::first_gate_wire(net);
-    let n = net.gates;
-    let mut at: usize = 0;
-    let mut g: u32 = 0;
-    while g < n {
+    let mut at = 0;
+    for g in 0..net.gates {
         let left = Code(gates[(2 * g) as usize]);
         let right = Code(gates[(2 * g + 1) as usize]);
-        at = at + put_gate(&mut out[at..], b, first.offset(g), left, right);
-        g = g + 1;
+        at += put_gate(&mut out[at..], b, first.offset(g), left, right);
     }
     at
 }

@@ -5,9 +5,6 @@ use Rattle.clause_writer.proofs.Wrote.{wrote_then}
 use Rattle.group_closing.proofs.OfClosing.{closing-parts}
 use Rattle.group_closing.proofs.put_closing.Goals as goal
 
-pub put_some_source-requires : goal.put_some_source-requires
-put_some_source-requires c = (search rules, search rules)
-
 pub returns : goal.returns
 returns c =
     let first = wrote_then c.put_initial-a.ensures.0 c.put_held.ensures.0 in

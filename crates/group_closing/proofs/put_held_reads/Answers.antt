@@ -2,20 +2,13 @@
 
 use mathlib.Core.Path.{◌∙◌, ap}
 use native.Mathlib.Omega.{arith}
-use borrow.Author.Rules.{rules}
 use Rattle.model.specs.Clauses.{neg}
 use Rattle.netlist.specs.NetOf.{net_of}
 use Rattle.clause_variables.specs.PortOf.{port_of}
 use Rattle.clause_variables.proofs.Room.{wire-has-number, code-has-number}
-use Rattle.clause_writer.proofs.Turns.{turns-start, turns-room, turns-count, turns_next, turns-end}
+use Rattle.clause_writer.proofs.Turns.{turns-start, turns-room, turns_next, turns-end}
 use Rattle.group_closing.proofs.OfClosing.{held-bits}
 use Rattle.group_closing.proofs.put_held_reads.Goals as goal
-
-pub frame_base-reading-requires : goal.frame_base-reading-requires
-frame_base-reading-requires c = let is = c.requires.0 in (is.fits.limits.sizes, omega arith)
-
-pub frame_base-before-requires : goal.frame_base-before-requires
-frame_base-before-requires c = let is = c.requires.0 in (is.fits.limits.sizes, omega arith)
 
 pub in_frame-requires : goal.in_frame-requires
 unfolding port_of
@@ -23,19 +16,8 @@ in_frame-requires c =
     let is = c.requires.0 in
     rw c.frame_base-reading.ensures (code-has-number _ is.fits.limits.sizes _ _ is.depth is.fits.port-RE-fits)
 
-pub first_read_wire-first-requires : goal.first_read_wire-first-requires
-first_read_wire-first-requires c = c.requires.0.fits.limits.sizes
-
 pub loop-t-init : goal.loop-t-init
 loop-t-init c = turns-start _ _ _ _ c.requires.2
-
-pub overflow_add-read : goal.overflow_add-read
-unfolding net_of port_of
-overflow_add-read c = search rules
-
-pub offset-requires : goal.offset-requires
-unfolding net_of port_of
-offset-requires c = search rules
 
 pub put_held_bit-at-requires : goal.put_held_bit-at-requires
 unfolding net_of port_of
@@ -48,12 +30,6 @@ put_held_bit-at-requires c =
       omega arith,
       turns-room c.loop-t.invariant h,
     )
-
-pub overflow_add-at : goal.overflow_add-at
-unfolding net_of port_of
-overflow_add-at c =
-    let count = turns-count c.loop-t.invariant c.loop-t-test.true c.put_held_bit-at.ensures.1 in
-    search rules
 
 pub loop-t-preserved : goal.loop-t-preserved
 unfolding net_of port_of

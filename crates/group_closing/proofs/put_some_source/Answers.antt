@@ -7,7 +7,6 @@ use Rattle.model.specs.Variables.{closing_literals}
 use Rattle.clause_variables.specs.PortOf.{port_of}
 use Rattle.clause_variables.proofs.Room.{numbered}
 use Rattle.clause_writer.proofs.Wrote.{clause-left-out, has_true-behind}
-use Rattle.group_closing.proofs.OfClosing.{neither}
 use Rattle.group_closing.proofs.put_some_source.Goals as goal
 
 pub in_frame-read_enable-requires : goal.in_frame-read_enable-requires
@@ -20,9 +19,6 @@ returns-then-is_true c =
     let re = rw c.frame_base.ensures at c.in_frame-read_enable.ensures.literal in
     let some = rw (c.is_true.ensures, c.is_true-2.ensures, c.negated-idle.ensures.literal, re, c.none_since-none_since.ensures.literal) at c.if-is_true.true in
     (clause-left-out _ _ (has_true-behind _ _ _ ∙ rw some), search rules)
-
-pub put_source_clause-requires : goal.put_source_clause-requires
-put_source_clause-requires c = (search rules, search rules, search rules, search (rules, neither), search rules)
 
 pub returns : goal.returns
 unfolding some_source closing_literals port_of

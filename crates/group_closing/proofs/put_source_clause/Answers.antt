@@ -4,7 +4,6 @@ use Prim.Native.Nat.{◌+◌}
 use mathlib.Core.Path.{◌∙◌}
 use mathlib.Core.List.{◌∷◌}
 use native.Mathlib.Omega.{arith}
-use borrow.Author.Rules.{rules}
 use Rattle.model.specs.Gather.{gather}
 use Rattle.model.specs.Clauses.{selected_of}
 use Rattle.literals.specs.Lit.{literal_of}
@@ -12,9 +11,6 @@ use Rattle.clause_writer.proofs.Wrote.{wrote_then, clause-ended, end-most, kept-
 use Rattle.group_closing.specs.OfClosing.{of_closing}
 use Rattle.group_closing.proofs.OfClosing.{sources-none}
 use Rattle.group_closing.proofs.put_source_clause.Goals as goal
-
-pub put_sources-requires : goal.put_sources-requires
-put_sources-requires c = (search rules, search rules)
 
 pub returns : goal.returns
 returns c =

@@ -2,34 +2,15 @@
 
 use Prim.Native.Nat.{◌+◌}
 use native.Mathlib.Omega.{arith}
-use borrow.Author.Rules.{rules}
 use Rattle.netlist.specs.NetOf.{net_of, alone}
 use Rattle.clause_variables.specs.PortOf.{port_of}
 use Rattle.clause_variables.proofs.Room.{pair-has-number}
-use Rattle.clause_writer.proofs.Turns.{turns-start, turns-room, turns-count, turns_next, turns-end}
+use Rattle.clause_writer.proofs.Turns.{turns-start, turns_next, turns-end}
 use Rattle.group_closing.proofs.OfClosing.{source-base, sources}
 use Rattle.group_closing.proofs.put_sources.Goals as goal
 
-pub pair_base-q-requires : goal.pair_base-q-requires
-pair_base-q-requires c = let is = c.requires.0 in (is.fits, omega arith, omega arith)
-
-pub numbering-numbering-requires : goal.numbering-numbering-requires
-numbering-numbering-requires c = c.requires.0.fits.limits.sizes
-
-pub overflow_add-offset : goal.overflow_add-offset
-unfolding net_of
-overflow_add-offset c = search rules
-
 pub loop-j-init : goal.loop-j-init
 loop-j-init c = turns-start _ _ _ _ (omega arith)
-
-pub overflow_mul-j : goal.overflow_mul-j
-unfolding net_of
-overflow_mul-j c =
-    let is = c.requires.0 in
-    let e = source-base (alone c.args.net) (port_of c.args.port) c.args.i c.pair_base-q.ensures c.numbering-numbering.ensures.1 c.loop-j.j in
-    let number = pair-has-number (alone c.args.net) (port_of c.args.port) is.fits c.loop-j.j c.args.i (c.args.net.m + 4) c.loop-j-test.true is.depth (omega arith) in
-    omega arith
 
 pub overflow_add-q : goal.overflow_add-q
 unfolding net_of
@@ -46,15 +27,6 @@ in_pair-selected-requires c =
     let e = source-base (alone c.args.net) (port_of c.args.port) c.args.i c.pair_base-q.ensures c.numbering-numbering.ensures.1 c.loop-j.j in
     let number = pair-has-number (alone c.args.net) (port_of c.args.port) is.fits c.loop-j.j c.args.i (c.args.net.m + 4) c.loop-j-test.true is.depth (omega arith) in
     (rw e number, omega arith)
-
-pub put_literal-at-requires : goal.put_literal-at-requires
-put_literal-at-requires c =
-    (c.in_pair-selected.ensures.number, turns-room c.loop-j.invariant c.loop-j-test.true)
-
-pub overflow_add-at : goal.overflow_add-at
-overflow_add-at c =
-    let count = turns-count c.loop-j.invariant c.loop-j-test.true c.put_literal-at.ensures.1 in
-    search rules
 
 pub loop-j-preserved : goal.loop-j-preserved
 loop-j-preserved c =

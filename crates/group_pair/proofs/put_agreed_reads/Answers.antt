@@ -5,38 +5,15 @@ use borrow.Author.Rules.{rules}
 use Rattle.netlist.specs.NetOf.{net_of}
 use Rattle.clause_variables.specs.PortOf.{port_of}
 use Rattle.clause_variables.proofs.Room.{wire-has-number, numbered}
-use Rattle.clause_writer.proofs.Turns.{turns-start, turns-room, turns-count, turns_next, turns-end}
+use Rattle.clause_writer.proofs.Turns.{turns-start, turns-room, turns_next, turns-end}
 use Rattle.group_pair.proofs.OfPair.{agreed-bits}
 use Rattle.group_pair.proofs.put_agreed_reads.Goals as goal
 
 pub in_pair-address_equal-requires : goal.in_pair-address_equal-requires
 in_pair-address_equal-requires c = search (rules, numbered)
 
-pub none_since-earlier-requires : goal.none_since-earlier-requires
-none_since-earlier-requires c = let is = c.requires.0 in (is.fits, omega arith, omega (arith, is.earlier, is.depth))
-
-pub none_since-later-requires : goal.none_since-later-requires
-none_since-later-requires c = let is = c.requires.0 in (is.fits, omega arith, is.depth)
-
-pub frame_base-before-requires : goal.frame_base-before-requires
-frame_base-before-requires c = let is = c.requires.0 in (is.fits.limits.sizes, omega (arith, is.earlier, is.depth))
-
-pub frame_base-reading-requires : goal.frame_base-reading-requires
-frame_base-reading-requires c = let is = c.requires.0 in (is.fits.limits.sizes, omega (arith, is.depth))
-
-pub first_read_wire-first-requires : goal.first_read_wire-first-requires
-first_read_wire-first-requires c = c.requires.0.fits.limits.sizes
-
 pub loop-t-init : goal.loop-t-init
 loop-t-init c = turns-start _ _ _ _ c.requires.1
-
-pub overflow_add-read : goal.overflow_add-read
-unfolding net_of port_of
-overflow_add-read c = search rules
-
-pub offset-requires : goal.offset-requires
-unfolding net_of port_of
-offset-requires c = search rules
 
 pub put_agreed_bit-at-requires : goal.put_agreed_bit-at-requires
 unfolding net_of port_of
@@ -51,16 +28,6 @@ put_agreed_bit-at-requires c =
       omega arith,
       turns-room c.loop-t.invariant h,
     )
-
-pub overflow_add-at : goal.overflow_add-at
-unfolding net_of port_of
-overflow_add-at c =
-    let count = turns-count c.loop-t.invariant c.loop-t-test.true c.put_agreed_bit-at.ensures.1 in
-    search rules
-
-pub overflow_add-t : goal.overflow_add-t
-unfolding net_of
-overflow_add-t c = omega (arith, c.loop-t-test.true, c.requires.0.fits.limits.sizes.n-most)
 
 pub loop-t-preserved : goal.loop-t-preserved
 unfolding net_of port_of

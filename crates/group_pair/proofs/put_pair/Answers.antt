@@ -5,9 +5,6 @@ use Rattle.clause_writer.proofs.Wrote.{wrote_then}
 use Rattle.group_pair.proofs.OfPair.{pair_parts}
 use Rattle.group_pair.proofs.put_pair.Goals as goal
 
-pub put_agreed-requires : goal.put_agreed-requires
-put_agreed-requires c = (search rules, search rules)
-
 pub returns : goal.returns
 returns c =
     let first = wrote_then c.put_comparison-a.ensures.0 c.put_gated_data.ensures.0 in

@@ -1,42 +1,16 @@
 -- `group_pair_address::put_address_bits` meets its contract. The loop has written the bits passed.
 
 use native.Mathlib.Omega.{arith}
-use borrow.Author.Rules.{rules}
 use Rattle.model.proofs.Ports.{first-port}
 use Rattle.netlist.specs.NetOf.{code_of, net_of, alone}
 use Rattle.clause_variables.specs.PortOf.{port_of}
 use Rattle.clause_variables.proofs.Room.{code-numbered, pair-has-number}
-use Rattle.clause_writer.proofs.Turns.{turns-start, turns-room, turns-count, turns_next, turns-end}
+use Rattle.clause_writer.proofs.Turns.{turns-start, turns-room, turns_next, turns-end}
 use Rattle.group_pair_address.proofs.BitsOf.{address-bits}
 use Rattle.group_pair_address.proofs.put_address_bits.Goals as goal
 
-pub pair_base-q-requires : goal.pair_base-q-requires
-pair_base-q-requires c = let is = c.requires.0 in (is.fits, omega arith, omega arith)
-
-pub frame_base-writing-requires : goal.frame_base-writing-requires
-frame_base-writing-requires c = let is = c.requires.0 in (is.fits.limits.sizes, omega arith)
-
-pub frame_base-reading-requires : goal.frame_base-reading-requires
-frame_base-reading-requires c = let is = c.requires.0 in (is.fits.limits.sizes, omega arith)
-
 pub loop-t-init : goal.loop-t-init
 loop-t-init c = turns-start _ _ _ _ c.requires.1
-
-pub offset_bounds-net-t : goal.offset_bounds-net-t
-unfolding net_of
-offset_bounds-net-t c = search rules
-
-pub bounds-net-t : goal.bounds-net-t
-unfolding net_of
-bounds-net-t c = search rules
-
-pub offset_bounds-port-t : goal.offset_bounds-port-t
-unfolding net_of
-offset_bounds-port-t c = search rules
-
-pub bounds-port-t : goal.bounds-port-t
-unfolding net_of
-bounds-port-t c = search rules
 
 pub put_address_bit-at-requires : goal.put_address_bit-at-requires
 unfolding code_of net_of port_of
@@ -51,12 +25,6 @@ put_address_bit-at-requires c =
       code-numbered _ _ _ _ c.frame_base-reading.ensures is.fits.limits.sizes own (omega arith),
       turns-room c.loop-t.invariant h,
     )
-
-pub overflow_add-at : goal.overflow_add-at
-unfolding code_of net_of port_of
-overflow_add-at c =
-    let count = turns-count c.loop-t.invariant c.loop-t-test.true c.put_address_bit-at.ensures.1 in
-    search rules
 
 pub loop-t-preserved : goal.loop-t-preserved
 unfolding code_of net_of port_of

@@ -8,7 +8,3 @@ use Rattle.group_property.proofs.is_always_violated.Goals as goal
 pub in_frame-property-requires : goal.in_frame-property-requires
 unfolding net_of
 in_frame-property-requires c = search (rules, numbered)
-
-pub returns : goal.returns
-returns c =
-    rw (c.negated.ensures.literal, c.in_frame-property.ensures.literal, c.frame_base.ensures) at c.is_true.ensures

@@ -1,26 +1,16 @@
 -- `group_property::put_violations` meets its contract. The loop has written the frames passed.
 
 use native.Mathlib.Omega.{arith}
-use borrow.Author.Rules.{rules}
 use Rattle.model.specs.Variables.{base}
 use Rattle.literals.specs.Numbering.{base_of}
 use Rattle.netlist.specs.NetOf.{net_of}
-use Rattle.clause_variables.proofs.Room.{numbering-fits, code-has-number}
-use Rattle.clause_writer.proofs.Turns.{turns-start, turns-room, turns-count, turns_next, turns-end}
+use Rattle.clause_variables.proofs.Room.{code-has-number}
+use Rattle.clause_writer.proofs.Turns.{turns-start, turns_next, turns-end}
 use Rattle.group_property.proofs.Violations.{violations}
 use Rattle.group_property.proofs.put_violations.Goals as goal
 
-pub numbering-numbering-requires : goal.numbering-numbering-requires
-numbering-numbering-requires c = c.requires.0.limits.sizes
-
 pub loop-i-init : goal.loop-i-init
 loop-i-init c = turns-start _ _ _ _ (omega arith)
-
-pub base-requires : goal.base-requires
-base-requires c =
-    let is = c.requires.0 in
-    let e = c.numbering-numbering.ensures in
-    numbering-fits is.limits.sizes e.0 e.1 (omega arith)
 
 pub in_frame-property-requires : goal.in_frame-property-requires
 unfolding base base_of net_of
@@ -28,18 +18,6 @@ in_frame-property-requires c =
     let is = c.requires.0 in
     rw (c.base.ensures, c.numbering-numbering.ensures.0, c.numbering-numbering.ensures.1)
     (code-has-number _ is.limits.sizes _ _ (omega arith) (omega arith))
-
-pub negated-requires : goal.negated-requires
-negated-requires c = c.in_frame-property.ensures.number
-
-pub put_literal-at-requires : goal.put_literal-at-requires
-put_literal-at-requires c =
-    (c.negated.ensures.number, turns-room c.loop-i.invariant c.loop-i-test.true)
-
-pub overflow_add-at : goal.overflow_add-at
-overflow_add-at c =
-    let count = turns-count c.loop-i.invariant c.loop-i-test.true c.put_literal-at.ensures.1 in
-    search rules
 
 pub loop-i-preserved : goal.loop-i-preserved
 loop-i-preserved c =
