@@ -63,13 +63,7 @@ pub fn export_binary(
     ensures borrowed { out.new ≡ export_leaves (net_of net latches.now gates.now) latch_count gate_count out.old }
     ensures exported { ExportTheorem }
 {
-    test_export(
-        net,
-        latches,
-        latch_count,
-        gates,
-        gate_count,
-    )?;
+    test_export(net, latches, latch_count, gates, gate_count)?;
     let mut bytes = [0; 4096];
     let count = aiger_writer::put_file(&mut bytes, net, latches, gates);
     if out.len() < count {

@@ -63,14 +63,7 @@ pub fn heading(
 ) -> Result<ProblemLine, Refused>
     ensures { heading_reply result ≡ heading_sent (net_of net latches.now gates.now) latch_count gate_count depth }
 {
-    test_depth(
-        net,
-        latches,
-        latch_count,
-        gates,
-        gate_count,
-        depth,
-    )?;
+    test_depth(net, latches, latch_count, gates, gate_count, depth)?;
     let variables = clause_variables::frame_base(net, depth + 1);
     Ok(ProblemLine {
         variables,
@@ -150,14 +143,6 @@ pub fn write_group(
     ensures answer { count_reply result ≡ group_sent (net_of net latches.now gates.now) latch_count gate_count depth group (length out.old) }
     ensures borrowed { out.new ≡ group_leaves (net_of net latches.now gates.now) latch_count gate_count depth group out.old }
 {
-    test_group(
-        net,
-        latches,
-        latch_count,
-        gates,
-        gate_count,
-        depth,
-        group,
-    )?;
+    test_group(net, latches, latch_count, gates, gate_count, depth, group)?;
     write_tested(net, latches, gates, depth, group, out)
 }

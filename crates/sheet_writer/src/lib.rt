@@ -236,13 +236,7 @@ pub fn write_sheet(
     ensures borrowed { out.new ≡ write_leaves (net_of net latches.now gates.now) latch_count gate_count out.old }
     ensures written { SheetWritten }
 {
-    netlist_tests::test_record(
-        net,
-        latches,
-        latch_count,
-        gates,
-        gate_count,
-    )?;
+    netlist_tests::test_record(net, latches, latch_count, gates, gate_count)?;
     if out.len() < 32 * (netlist::control_line(net) as usize) {
         return Err(Refused(Refusal::NoRoom, 0));
     }
