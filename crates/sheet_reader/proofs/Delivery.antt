@@ -141,7 +141,7 @@ module _ {v : Verdict} {c : M.Netlist} (latches : List LatchEntry) (gates : List
       by-verdict : (w : Verdict) → v ≡ w → new_latches ≡ latches_beside v c latches
       by-verdict (Ok _) e = rw e (latches-of e)
       by-verdict (Err f) e =
-          let net : sheet.net ≡ record_beside (refuse r p) c = record_is outcome ∙ rw e in rw e (rw net (delivered-none (latch_at latch_list) latches))
+          let net : sheet.net ≡ record_beside (Err f) c = record_is outcome ∙ rw e in rw e (rw net (delivered-none (latch_at latch_list) latches))
 
   pub gates-are : new_gates ≡ gates_beside v c gates
   unfolding gates_beside contents_after delivered record_beside record_of
@@ -150,7 +150,7 @@ module _ {v : Verdict} {c : M.Netlist} (latches : List LatchEntry) (gates : List
       by-verdict : (w : Verdict) → v ≡ w → new_gates ≡ gates_beside v c gates
       by-verdict (Ok _) e = rw e (gates-of e)
       by-verdict (Err f) e =
-          let net : sheet.net ≡ record_beside (refuse r p) c = record_is outcome ∙ rw e in rw e (rw net (delivered-none (gate_at gate_list) gates))
+          let net : sheet.net ≡ record_beside (Err f) c = record_is outcome ∙ rw e in rw e (rw net (delivered-none (gate_at gate_list) gates))
 
   -- the lists stay as long as they were
   pub latches-length : length new_latches ≡ length latches

@@ -1,6 +1,6 @@
 -- `netlist_tests::test_ports` meets its contract: where the test for ties passes, that for memory loops decides.
 
-use mathlib.Core.Path.{◌≡◌, sym, ◌∙◌}
+use mathlib.Core.Path.{sym, ◌∙◌}
 use mathlib.Core.List.{[]}
 use Rattle.std.proofs.lemmas.Result.{err_from_is_err_and}
 use Rattle.refusals.specs.Tests.{◌then◌}

@@ -1,15 +1,12 @@
 -- `netlist_tests::test_ties` meets its contract: where the first port has no tie, a second port decides.
 
-use mathlib.Core.Path.{◌≡◌, sym}
+use mathlib.Core.Path.{sym}
 use native.Mathlib.Nat.{add-zero}
 use native.Mathlib.Omega.{arith}
 use borrow.Author.Tests.{lt-ltb, le-ltb}
 use Rattle.std.proofs.lemmas.Result.{err_from_is_err_and}
 use Rattle.refusals.specs.Tests.{◌then◌}
-use Rattle.model.specs.Netlist.{port}
 use Rattle.netlist.specs.NetOf.{net_of, alone}
-use Rattle.netlist.specs.Places.{address_line}
-use Rattle.netlist_tests.specs.OnePort.{test_address}
 use Rattle.netlist_tests.proofs.Ties.{ties-by-ports}
 use Rattle.netlist_tests.proofs.test_ties.Goals as goal
 
