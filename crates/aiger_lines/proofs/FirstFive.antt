@@ -10,8 +10,8 @@ use native.Mathlib.Omega.{arith}
 use borrow.Author.Tests.{lt-ltb, le-ltb}
 use lib.ListN.{length, get_or, take, drop, set, replicate, length-append, length-replicate, take-append-drop}
 use lib.Seq.{get_or-take, length-take-le, take-suc-set, drop-set-lt, drop-drop, take_at}
+use Rattle.std.specs.Prelude.{Some, None}
 use Rattle.decimal.specs.TextValue.{number_in}
-use Rattle.decimal.specs.declared.Number.TheVariants.{Value, NotANumber}
 use Rattle.aiger_lines.specs.Numbers.{all_unsigned, unsigned_values, word_numbers}
 use Rattle.aiger_lines.specs.Steps.{first_five, numbers_held, HoldsNumbers}
 use Rattle.aiger_lines.specs.declared.Numbers.{Numbers}
@@ -30,11 +30,11 @@ gathered-end xs = append-nil xs
 
 -- one word more
 module _ (xs : List ℕ) (w : List ℕ) (ws : List (List ℕ)) where
-  pub gathered_next : (x : ℕ) → number_in w ≡ Value x → gathered xs (w ∷ ws) ≡ gathered (xs ++ x ∷ []) ws
+  pub gathered_next : (x : ℕ) → number_in w ≡ Some x → gathered xs (w ∷ ws) ≡ gathered (xs ++ x ∷ []) ws
   unfolding gathered all_unsigned unsigned_values
   gathered_next x e = rw (e, append_assoc)
 
-  pub gathered-other : number_in w ≡ NotANumber → gathered xs (w ∷ ws) ≡ []
+  pub gathered-other : number_in w ≡ None → gathered xs (w ∷ ws) ≡ []
   unfolding gathered all_unsigned
   gathered-other e = rw e
 

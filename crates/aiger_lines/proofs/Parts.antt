@@ -1,8 +1,8 @@
 -- Laws of specs/Parts.antt: the header's word and counts, and what a well-formed line has. No contract cites this file.
 use Prim.Native.Nat.{ℕ, ◌+◌, ◌*◌, ◌%◌, ◌≤◌, ◌<◌}
-use mathlib.Core.Path.{◌≡◌, refl, sym, ap, ◌∙◌}
-use mathlib.Core.Bool.{Bool, true, false, not, ◌&&◌, ◌||◌}
-use mathlib.Core.List.{List, [], ◌∷◌}
+use mathlib.Core.Path.{◌≡◌, sym, ap, ◌∙◌}
+use mathlib.Core.Bool.{true, false, not, ◌&&◌, ◌||◌}
+use mathlib.Core.List.{List, []}
 use mathlib.Core.Logic.{by_cases}
 use native.Mathlib.Decide.{dec_lt}
 use native.Mathlib.Numerals.{add-one}
@@ -11,35 +11,14 @@ use borrow.Author.Tests.{eq-eqb, ne_eqb, eqb-true, eqb-false, ltb-false, le-ltb,
 use lib.Dec.{eqb, ltb}
 use lib.ListN.{length, get_or, drop, drop_of_length-le}
 use lib.Seq.{drop-cons, take_all}
-use Rattle.model.proofs.Booleans.{neither-true, not-true-false}
-use Rattle.decimal.specs.TextValue.{same_text}
-use Rattle.decimal.proofs.TextValue.{same_text-true}
-use Rattle.aiger_lines.specs.Parts.{aag, counts_from, counts_of, width, defines, any_above, not_definable, malformed_line}
+use Rattle.model.proofs.Booleans.{neither-true}
+use Rattle.aiger_lines.specs.Parts.{counts_from, counts_of, width, defines, any_above, not_definable, malformed_line}
 use Rattle.aiger_lines.specs.Steps.{first_five, numbers_held, HoldsNumbers}
 use Rattle.aiger_lines.specs.declared.Counts.{Counts}
 use Rattle.aiger_lines.specs.declared.Numbers.{Numbers}
 use Rattle.aiger_lines.specs.declared.Part.{Part}
 use Rattle.aiger_lines.specs.declared.Part.TheVariants.{Header, Input, Latch, Output, Gate}
 use Rattle.aiger_lines.proofs.FirstFive.{five-many, five-in, in-length}
-
--- the word `aag`, byte by byte
-pub aag-length : (w : List ℕ) → (length w ≡ 3 → ⊥) → same_text w aag ≡ false
-aag-length w n = not-true-false (same_text w aag) (λ h. n (ap length (same_text-true w aag h)))
-
-pub aag-byte : (w : List ℕ) (i : ℕ) → (get_or w i 0 ≡ get_or aag i 0 → ⊥) → same_text w aag ≡ false
-aag-byte w i n = not-true-false (same_text w aag) (λ h. n (ap (λ (t : List ℕ). get_or t i 0) (same_text-true w aag h)))
-
-pub aag-third : (w : List ℕ) → length w ≡ 3 → get_or w 0 0 ≡ 97 → get_or w 1 0 ≡ 97 → eqb (get_or w 2 0) 103 ≡ same_text w aag
-unfolding same_text
-aag-third [] l a b = absurd (omega arith)
-aag-third (x ∷ []) l a b = absurd (omega arith)
-aag-third (x ∷ y ∷ []) l a b = absurd (omega arith)
-aag-third (x ∷ y ∷ z ∷ []) l a b = rw (eq-eqb x 97 a, eq-eqb y 97 b) (last (eqb z 103))
-  where
-    last : (t : Bool) → t ≡ (t && true)
-    last true = refl
-    last false = refl
-aag-third (x ∷ y ∷ z ∷ w ∷ ws) l a b = absurd (omega arith)
 
 -- five numbers are the header's counts
 pub counts-five : (xs : Numbers) → HoldsNumbers xs → xs.count ≡ 5 → counts_of (numbers_held xs) ≡ counts_from xs.values

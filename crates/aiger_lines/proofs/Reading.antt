@@ -8,9 +8,9 @@ use native.Mathlib.Decide.{dec_lt}
 use native.Mathlib.Omega.{arith}
 use lib.ListN.{length, take, drop, set, replicate, length-set}
 use lib.Seq.{length-take-le}
+use Rattle.std.specs.Prelude.{Some, None}
 use Rattle.decimal.specs.Digits.{space}
 use Rattle.decimal.specs.TextValue.{number_in}
-use Rattle.decimal.specs.declared.Number.TheVariants.{Value, NotANumber}
 use Rattle.text_words.specs.Words.{words_of}
 use Rattle.aiger_lines.specs.Numbers.{word_numbers}
 use Rattle.aiger_lines.specs.Steps.{span_to, first_five}
@@ -44,7 +44,7 @@ module _ (line values : List ℕ) (count at end : ℕ) (reading : Reading line v
       (λ l. ([], words-over line at end reading.within found (omega arith)))
 
   -- it is no number
-  pub stops : number_in word ≡ NotANumber → first_five [] ≡ first_five (word_numbers (words_of line))
+  pub stops : number_in word ≡ None → first_five [] ≡ first_five (word_numbers (words_of line))
   stops e =
       ap first_five
       (sym (gathered-other before word some_words.0 e) ∙ ap (gathered before) (sym some_words.1) ∙ reading.numbers)
@@ -56,7 +56,7 @@ module _ (line values : List ℕ) (count at end : ℕ) (reading : Reading line v
       sym (gathered-many before word some_words.0 (omega arith))
       ∙ ap first_five (ap (gathered before) (sym some_words.1) ∙ reading.numbers)
 
-  module _ (x : ℕ) (e : number_in word ≡ Value x) (room : count < 5) where
+  module _ (x : ℕ) (e : number_in word ≡ Some x) (room : count < 5) where
     -- it is the last
     pub ends : length line ≤ end → record { count = count + 1; values = set values count x } ≡ first_five (word_numbers (words_of line))
     ends l =

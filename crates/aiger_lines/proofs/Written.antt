@@ -7,11 +7,10 @@ use mathlib.Core.List.{List, [], ◌∷◌, ◌++◌, map}
 use native.Mathlib.Omega.{arith}
 use lib.Dec.{eqb}
 use lib.ListN.{length, get_or}
+use Rattle.std.specs.Prelude.{Option, Some, None}
 use Rattle.model.proofs.Booleans.{and-true}
 use Rattle.decimal.specs.Digits.{digits, space, line_feed}
 use Rattle.decimal.specs.TextValue.{number_in, same_text}
-use Rattle.decimal.specs.declared.Number.{Number}
-use Rattle.decimal.specs.declared.Number.TheVariants.{Value, NotANumber}
 use Rattle.decimal.proofs.TextValue.{same_text-refl, same_text-true, number_in-digits, digits-number_in}
 use Rattle.text_words.specs.Words.{lines_of, words_of, spaced, Without}
 use Rattle.text_words.proofs.Words.{parts_first, parts_none, words-first, EachWithout, nothing, also, spaced-words, words-spaced, digits-without}
@@ -29,7 +28,7 @@ numbers-digits : (xs : List ℕ) → ((i : ℕ) → get_or xs i 0 < 2 ^ 32) → 
 unfolding all_unsigned unsigned_values
 numbers-digits [] h = (refl, refl)
 numbers-digits (x ∷ xs) h =
-    let e : number_in (digits x) ≡ Value x = number_in-digits x (h 0) in
+    let e : number_in (digits x) ≡ Some x = number_in-digits x (h 0) in
     let later = numbers-digits xs (λ i. h (suc i)) in
     (rw (e, later.0), rw (e, later.1))
 
@@ -41,9 +40,9 @@ digits-numbers (w ∷ ws) h =
     let both = (and-true (is_unsigned (number_in w)) (all_unsigned ws)).0 h in
     ap₂ (λ (x : List ℕ) (xs : List (List ℕ)). x ∷ xs) (of_number (number_in w) refl both.0) (digits-numbers ws both.1)
   where
-    of_number : (r : Number) → number_in w ≡ r → is_unsigned r ≡ true → digits (unsigned_value r) ≡ w
-    of_number (Value x) e h = sym (digits-number_in w x e).0
-    of_number NotANumber e h = absurd (false≢true h)
+    of_number : (r : Option ℕ) → number_in w ≡ r → is_unsigned r ≡ true → digits (unsigned_value r) ≡ w
+    of_number (Some x) e h = sym (digits-number_in w x e).0
+    of_number None e h = absurd (false≢true h)
 
 -- words of which there are numbers are the digits of these
 number-words : (ws : List (List ℕ)) → 0 < length (word_numbers ws) → map digits (word_numbers ws) ≡ ws
@@ -95,9 +94,9 @@ pub line-behind : (word : List ℕ) → Without space word → (xs : List ℕ) �
 line-behind word w xs l h = ap (numbers_behind word) (words-first word (numbers_text xs) w) ∙ rw (same_text-refl word) (line-numbers xs l h)
 
 -- a number on a line fits 32 bits
-unsigned_value-fits : (w : List ℕ) (r : Number) → number_in w ≡ r → unsigned_value r < 2 ^ 32
-unsigned_value-fits w (Value x) e = (digits-number_in w x e).1
-unsigned_value-fits w NotANumber e = omega arith
+unsigned_value-fits : (w : List ℕ) (r : Option ℕ) → number_in w ≡ r → unsigned_value r < 2 ^ 32
+unsigned_value-fits w (Some x) e = (digits-number_in w x e).1
+unsigned_value-fits w None e = omega arith
 
 unsigned_values-fit : (ws : List (List ℕ)) (i : ℕ) → get_or (unsigned_values ws) i 0 < 2 ^ 32
 unfolding unsigned_values

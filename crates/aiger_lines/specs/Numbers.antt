@@ -1,18 +1,16 @@
 -- The numbers that the words of a line are (RULES I2). Cited by the lines of an ASCII AIGER text.
-use Rattle.std.specs.Prelude.{ℕ, ◌-◌, Bool, true, false, cond, ◌&&◌, List, [], ◌∷◌, map, get_or}
+use Rattle.std.specs.Prelude.{Option, Some, None, ℕ, ◌-◌, Bool, true, false, cond, ◌&&◌, List, [], ◌∷◌, map, get_or}
 use Rattle.decimal.specs.TextValue.{number_in}
-use Rattle.decimal.specs.declared.Number.{Number}
-use Rattle.decimal.specs.declared.Number.TheVariants.{Value, NotANumber}
 use Rattle.text_words.specs.Words.{lines_of, words_of}
 
 -- whether all words are numbers, and which
-abbrev pub is_unsigned : Number → Bool
-is_unsigned (Value x) = true
-is_unsigned NotANumber = false
+abbrev pub is_unsigned : Option ℕ → Bool
+is_unsigned (Some x) = true
+is_unsigned None = false
 
-abbrev pub unsigned_value : Number → ℕ
-unsigned_value (Value x) = x
-unsigned_value NotANumber = 0
+abbrev pub unsigned_value : Option ℕ → ℕ
+unsigned_value (Some x) = x
+unsigned_value None = 0
 
 unfoldable pub all_unsigned : List (List ℕ) → Bool
 all_unsigned [] = true

@@ -9,8 +9,6 @@ ghost use Rattle.aiger_lines.specs.Parts.{aag, numbers_behind, counts_of, part_a
 ghost use Rattle.aiger_lines.specs.Written.{TextAsWritten};
 ghost use Rattle.aiger_lines.specs.Steps.{span_to, first_five, numbers_held, HoldsNumbers, Behind, NumbersRead, HeaderRead, SoundTo};
 
-use decimal::Number;
-
 // The header's counts: the largest variable (the report's M), inputs, latches, outputs, gates.
 #[derive(Clone, Copy)]
 pub struct Counts {
@@ -57,14 +55,12 @@ fn find(text: &[u8], at: usize, end: u8) -> usize
     requires { at ≤ length text.now }
     ensures { result ≡ at + span_to end (drop at text.now) }
 {
-    let mut i = at;
-    while i < text.len() {
+    for i in at..text.len() {
         if text[i] == end {
             return i;
         }
-        i += 1;
     }
-    i
+    text.len()
 }
 
 // No numbers.
@@ -87,7 +83,7 @@ fn read_numbers(line: &[u8]) -> Numbers
     let mut at: usize = 0;
     loop {
         let end = find(line, at, b' ');
-        let Number::Value(x) = decimal::read_number(&line[at..end]) else {
+        let Some(x) = decimal::read_number(&line[at..end]) else {
             return no_numbers();
         };
         if 5 <= count {
@@ -106,16 +102,7 @@ fn read_numbers(line: &[u8]) -> Numbers
 fn is_aag(word: &[u8]) -> bool
     ensures { result ≡ same_text word.now aag }
 {
-    if word.len() == 3 {
-        if word[0] == b'a' {
-            if word[1] == b'a' {
-                return word[2] == b'g';
-            }
-            return false;
-        }
-        return false;
-    }
-    false
+    word == b"aag".as_slice()
 }
 
 // The numbers behind the word `aag`.
@@ -123,12 +110,9 @@ fn header_numbers(line: &[u8]) -> Numbers
     ensures { result ≡ first_five (numbers_behind aag (words_of line.now)) }
 {
     let end = find(line, 0, b' ');
-    if end < line.len() {
-        if is_aag(&line[..end]) {
-            let at = end + 1;
-            return read_numbers(&line[at..]);
-        }
-        return no_numbers();
+    if end < line.len() && is_aag(&line[..end]) {
+        let at = end + 1;
+        return read_numbers(&line[at..]);
     }
     no_numbers()
 }
@@ -238,9 +222,8 @@ fn width(part: Part) -> usize
 {
     match part {
         Part::Header => 5,
-        Part::Input => 1,
+        Part::Input | Part::Output => 1,
         Part::Latch => 2,
-        Part::Output => 1,
         Part::Gate => 3,
     }
 }
@@ -249,13 +232,7 @@ fn width(part: Part) -> usize
 fn defines(part: Part) -> bool
     ensures { result ≡ defines part }
 {
-    match part {
-        Part::Header => false,
-        Part::Input => true,
-        Part::Latch => true,
-        Part::Output => false,
-        Part::Gate => true,
-    }
+    matches!(part, Part::Input | Part::Latch | Part::Gate)
 }
 
 // Whether any of the numbers is above a limit.
@@ -263,12 +240,10 @@ fn any_above(limit: u64, numbers: Numbers) -> bool
     requires { HoldsNumbers numbers }
     ensures { result ≡ any_above limit (numbers_held numbers) }
 {
-    let mut i = 0;
-    while i < numbers.count {
-        if limit < numbers.values[i] as u64 {
+    for &x in &numbers.values[..numbers.count] {
+        if limit < x as u64 {
             return true;
         }
-        i += 1;
     }
     false
 }
@@ -278,23 +253,14 @@ fn has_high_literal(counts: Counts, part: Part, numbers: Numbers) -> bool
     requires { HoldsNumbers numbers }
     ensures { result ≡ (ltb (width part) 5 && any_above (2 * counts.largest + 1) (numbers_held numbers)) }
 {
-    if width(part) < 5 {
-        return any_above(2 * (counts.largest as u64) + 1, numbers);
-    }
-    false
+    width(part) < 5 && any_above(2 * (counts.largest as u64) + 1, numbers)
 }
 
 // Whether a line of a part defines a literal that may not be defined.
 fn has_wrong_definition(part: Part, literal: u32) -> bool
     ensures { result ≡ (defines part && not_definable literal) }
 {
-    if defines(part) {
-        if literal < 2 {
-            return true;
-        }
-        return literal % 2 == 1;
-    }
-    false
+    defines(part) && (literal < 2 || literal % 2 == 1)
 }
 
 // Whether a line of a part with these numbers is not well-formed.
@@ -302,13 +268,9 @@ fn is_malformed(counts: Counts, part: Part, numbers: Numbers) -> bool
     requires { HoldsNumbers numbers }
     ensures { result ≡ malformed_line counts part (numbers_held numbers) }
 {
-    if numbers.count == width(part) {
-        if has_high_literal(counts, part, numbers) {
-            return true;
-        }
-        return has_wrong_definition(part, numbers.values[0]);
-    }
-    true
+    numbers.count != width(part)
+        || has_high_literal(counts, part, numbers)
+        || has_wrong_definition(part, numbers.values[0])
 }
 
 // How many lines from the first on are well-formed, up to the last that is due. A line that the text does not have is not, so
@@ -323,15 +285,13 @@ pub fn sound_lines(text: &[u8], header: HeaderLine) -> u64
         return 0;
     }
     let due = lines_due(counts);
-    let mut line: u64 = 1;
     let mut at = header.next;
-    while line < due {
+    for line in 1..due {
         let read = next_line(text, line, at);
         if is_malformed(counts, part_at(counts, line + 1), read.numbers) {
             return line;
         }
-        line += 1;
         at = read.next;
     }
-    line
+    due
 }

@@ -6,13 +6,13 @@ use mathlib.Core.Bool.{Bool, true, false, cond, true≢false, false≢true}
 use mathlib.Core.List.{List, [], ◌∷◌, ◌++◌, append_assoc, append-nil}
 use native.Mathlib.Omega.{arith}
 use lib.Dec.{eqb}
+use lib.IntN.{ℤ}
 use lib.ListN.{length, drop, length-append, length-drop}
 use lib.Seq.{take-append-le}
+use Rattle.std.specs.Prelude.{Option, Some, None}
 use Rattle.decimal.specs.Digits.{space}
 use Rattle.decimal.specs.TextValue.{same_text}
 use Rattle.decimal.specs.SignedValue.{clause_number_in}
-use Rattle.decimal.specs.declared.ClauseNumber.{ClauseNumber}
-use Rattle.decimal.specs.declared.ClauseNumber.TheVariants.{Value, NotANumber}
 use Rattle.decimal.proofs.Signed.{length-signed_digits}
 use Rattle.decimal.proofs.SignedValue.{clause_number_in-other}
 use Rattle.literals.proofs.Literal.{fits}
@@ -45,9 +45,9 @@ module _ (w r : List ℕ) (ls : List (List ℕ)) (one : Without space w) where
   by-words : values_answer (line ∷ ls) ≡ all w (words_of r) ls
   by-words = value_line_lem line (w ∷ words_of r) ls (unfold same_text in refl) (words-first w r one)
 
-  pub number-kept : (number : ClauseNumber) → clause_number_in w ≡ number → is_values (progress_by number) ≡ true
+  pub number-kept : (number : Option ℤ) → clause_number_in w ≡ number → is_values (progress_by number) ≡ true
       → values_answer (line ∷ ls) ≡ after_numbers (number_by number) (values_answer ((118 ∷ space ∷ r) ∷ ls))
-  number-kept (Value z) e v = by_zero (is_zero z) refl v
+  number-kept (Some z) e v = by_zero (is_zero z) refl v
     where
       by_zero : (b : Bool) → is_zero z ≡ b → is_values (cond b Complete Values) ≡ true
           → values_answer (line ∷ ls) ≡ after_numbers (cond b [] (z ∷ [])) (values_answer ((118 ∷ space ∷ r) ∷ ls))
@@ -55,15 +55,15 @@ module _ (w r : List ℕ) (ls : List (List ℕ)) (one : Without space w) where
       by_zero false n v =
           by-words ∙ word_number w (words_of r) ls z e n
           ∙ ap (after_numbers (z ∷ [])) (sym (value_line_lem (118 ∷ space ∷ r) (words_of r) ls (unfold same_text in refl) refl))
-  number-kept NotANumber e v = absurd (false≢true v)
+  number-kept None e v = absurd (false≢true v)
 
-  pub number-dead : (number : ClauseNumber) → clause_number_in w ≡ number → is_values (progress_by number) ≡ false → values_answer (line ∷ ls) ≡ malformed
-  number-dead (Value z) e v = by_zero (is_zero z) refl v
+  pub number-dead : (number : Option ℤ) → clause_number_in w ≡ number → is_values (progress_by number) ≡ false → values_answer (line ∷ ls) ≡ malformed
+  number-dead (Some z) e v = by_zero (is_zero z) refl v
     where
       by_zero : (b : Bool) → is_zero z ≡ b → is_values (cond b Complete Values) ≡ false → values_answer (line ∷ ls) ≡ malformed
       by_zero true n v = by-words ∙ word-early w (words_of r) ls z e n (clause_numbers-some r _)
       by_zero false n v = absurd (true≢false v)
-  number-dead NotANumber e v = by-words ∙ word_none w (words_of r) ls e
+  number-dead None e v = by-words ∙ word_none w (words_of r) ls e
 
 -- the first word of a line goes on from what stands before the first space
 record FirstWord (begun r : List ℕ) : Type 0 where
@@ -94,7 +94,7 @@ unfolding words_of
 first_word w r one =
     rw (parts-append space [] w r, rest-append space [] w r, parts_none space [] w one, rest_all space [] w one) (first-after w r).is
 
-long-word : (w x : List ℕ) → 12 ≤ length w → clause_number_in (w ++ x) ≡ NotANumber
+long-word : (w x : List ℕ) → 12 ≤ length w → clause_number_in (w ++ x) ≡ None
 long-word w x h =
     clause_number_in-other (w ++ x)
     (λ z l e. omega (arith, length-signed_digits z (fits z l), sym (length-append w x) ∙ ap length e))

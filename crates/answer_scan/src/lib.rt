@@ -44,13 +44,7 @@ pub fn scan_start() -> Scan
 fn is_values(progress: Progress) -> bool
     ensures { result ≡ is_values progress }
 {
-    match progress {
-        Progress::NoStatus => false,
-        Progress::Values => true,
-        Progress::Complete => false,
-        Progress::Unsatisfiable => false,
-        Progress::Malformed => false,
-    }
+    matches!(progress, Progress::Values)
 }
 
 // Reads a space that ends a number.
@@ -66,10 +60,6 @@ fn end_number(signs: &mut SignTable, progress: Progress, begun: &[u8]) -> Positi
                 count: 2,
             };
         }
-        return Position {
-            progress: Progress::Malformed,
-            count: 0,
-        };
     }
     Position {
         progress: Progress::Malformed,
@@ -116,11 +106,8 @@ fn scan_byte(signs: &mut SignTable, line: &mut [u8], at: Position, byte: u8) -> 
     if answer_lines::is_comment(&line[..count]) {
         return at;
     }
-    if byte == b' ' {
-        if answer_lines::is_marked(&line[..count]) {
-            return end_number(signs, progress, &line[..count]);
-        }
-        return put_byte(line, at, byte);
+    if byte == b' ' && answer_lines::is_marked(&line[..count]) {
+        return end_number(signs, progress, &line[..count]);
     }
     put_byte(line, at, byte)
 }
@@ -133,10 +120,8 @@ pub fn scan_bytes(scan: Scan, signs: &mut SignTable, piece: &[u8]) -> Scan
 {
     let mut line = scan.line;
     let mut position = scan.position;
-    let mut i = 0;
-    while i < piece.len() {
-        position = scan_byte(signs, &mut line, position, piece[i]);
-        i += 1;
+    for &byte in piece {
+        position = scan_byte(signs, &mut line, position, byte);
     }
     Scan { position, line }
 }
@@ -155,8 +140,6 @@ pub fn scan_end(scan: Scan) -> AnswerKind
     match progress {
         Progress::Complete => AnswerKind::Satisfiable,
         Progress::Unsatisfiable => AnswerKind::Unsatisfiable,
-        Progress::NoStatus => AnswerKind::Malformed,
-        Progress::Values => AnswerKind::Malformed,
-        Progress::Malformed => AnswerKind::Malformed,
+        Progress::NoStatus | Progress::Values | Progress::Malformed => AnswerKind::Malformed,
     }
 }

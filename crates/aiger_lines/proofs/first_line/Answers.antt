@@ -1,13 +1,8 @@
 -- `aiger_lines::first_line` meets its contract: a line feed is found, or there is none.
 
-use mathlib.Core.Path.{sym}
 use native.Mathlib.Omega.{arith}
-use lib.Seq.{length-take-le}
 use Rattle.aiger_lines.proofs.Lines.{first_found, first-missing}
 use Rattle.aiger_lines.proofs.first_line.Goals as goal
-
-pub slice_bounds-header_numbers-end : goal.slice_bounds-header_numbers-end
-slice_bounds-header_numbers-end c = sym (length-take-le _ _ (omega arith))
 
 pub returns-then-length-text : goal.returns-then-length-text
 returns-then-length-text c =

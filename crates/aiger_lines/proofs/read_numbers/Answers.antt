@@ -11,19 +11,6 @@ use Rattle.aiger_lines.proofs.read_numbers.Goals as goal
 pub loop-x-init : goal.loop-x-init
 loop-x-init c = starts c.args.line.now
 
-pub find-end-requires : goal.find-end-requires
-find-end-requires c = c.loop-x.invariant.within
-
-pub slice_bounds-read_number-count : goal.slice_bounds-read_number-count
-slice_bounds-read_number-count c =
-    let line = c.args.line.now in
-    omega (arith, found_within space line c.loop-x.at c.find-end.result c.loop-x.invariant.within c.find-end.ensures)
-
-pub slice_bounds-read_number-start : goal.slice_bounds-read_number-start
-slice_bounds-read_number-start c =
-    let line = c.args.line.now in
-    omega (arith, found_within space line c.loop-x.at c.find-end.result c.loop-x.invariant.within c.find-end.ensures)
-
 pub slice_bounds-read_number-end : goal.slice_bounds-read_number-end
 slice_bounds-read_number-end c =
     let line = c.args.line.now in
@@ -42,15 +29,10 @@ returns-then-count-ge5 c =
 pub returns-then-line-end : goal.returns-then-line-end
 returns-then-line-end c =
     let line = c.args.line.now in
-    let read = sym c.read_number.ensures ∙ c.in-Value.is in record { numbers = ends line c.loop-x.values c.loop-x.count c.loop-x.at c.find-end.result c.loop-x.invariant c.find-end.ensures c.in-Value.x read (omega arith) (omega arith); written = read-as-written }
-
-pub loop-x-smaller : goal.loop-x-smaller
-loop-x-smaller c =
-    let line = c.args.line.now in
-    omega (arith, found_within space line c.loop-x.at c.find-end.result c.loop-x.invariant.within c.find-end.ensures)
+    let read = sym c.read_number.ensures ∙ c.in-Some.is in record { numbers = ends line c.loop-x.values c.loop-x.count c.loop-x.at c.find-end.result c.loop-x.invariant c.find-end.ensures c.in-Some.x read (omega arith) (omega arith); written = read-as-written }
 
 pub loop-x-preserved : goal.loop-x-preserved
 loop-x-preserved c =
     let line = c.args.line.now in
-    let read = sym c.read_number.ensures ∙ c.in-Value.is in
-    goes_on line c.loop-x.values c.loop-x.count c.loop-x.at c.find-end.result c.loop-x.invariant c.find-end.ensures c.in-Value.x read (omega arith) (omega arith)
+    let read = sym c.read_number.ensures ∙ c.in-Some.is in
+    goes_on line c.loop-x.values c.loop-x.count c.loop-x.at c.find-end.result c.loop-x.invariant c.find-end.ensures c.in-Some.x read (omega arith) (omega arith)

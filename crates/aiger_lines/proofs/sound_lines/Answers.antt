@@ -3,7 +3,7 @@
 use mathlib.Core.Path.{◌≡◌, sym, ap, ◌∙◌}
 use native.Mathlib.Omega.{arith}
 use Rattle.aiger_lines.specs.Parts.{lines_due}
-use Rattle.aiger_lines.proofs.Lines.{read-holds, header-malformed, line-malformed, none-sound, sound-starts, sound-next, sound-stops, sound-ends}
+use Rattle.aiger_lines.proofs.Lines.{read-holds, header-malformed, line-malformed, none-sound, sound-starts, sound-next, sound-stops}
 use Rattle.aiger_lines.proofs.sound_lines.Goals as goal
 
 pub is_malformed-requires : goal.is_malformed-requires
@@ -23,9 +23,6 @@ loop-line-init c =
     let test = header-malformed text c.args.header.counts c.requires.counts-are c.first_line-first.result.numbers c.first_line-first.result.next c.first_line-first.ensures in
     sound-starts text c.args.header.next c.requires.behind (test ∙ sym c.is_malformed.ensures ∙ c.if-is_malformed.false)
 
-pub next_line-read-requires : goal.next_line-read-requires
-next_line-read-requires c = (c.loop-line.invariant.some, c.loop-line.invariant.behind)
-
 pub is_malformed-requires-in-loop-line : goal.is_malformed-requires-in-loop-line
 is_malformed-requires-in-loop-line c =
     let text = c.args.text.now in
@@ -39,9 +36,6 @@ returns-then-is_malformed-2 c =
     c.part_at.result c.part_at.ensures in
     sound-stops text c.loop-line.line c.loop-line.at c.loop-line.invariant (test ∙ sym c.is_malformed-in-loop-line.ensures ∙ c.if-is_malformed-2.true)
 
-pub loop-line-smaller : goal.loop-line-smaller
-loop-line-smaller c = omega arith
-
 pub loop-line-preserved : goal.loop-line-preserved
 loop-line-preserved c =
     let text = c.args.text.now in
@@ -51,9 +45,3 @@ loop-line-preserved c =
     let due : c.lines_due-due.result ≡ lines_due c.args.header.counts = c.lines_due-due.ensures in
     sound-next text c.loop-line.line c.loop-line.at c.loop-line.invariant c.next_line-read.result.next (omega (arith, ap lines_due c.requires.counts-are)) c.next_line-read.ensures.behind
     (test ∙ sym c.is_malformed-in-loop-line.ensures ∙ c.if-is_malformed-2.false)
-
-pub returns : goal.returns
-returns c =
-    let text = c.args.text.now in
-    let due : c.lines_due-due.result ≡ lines_due c.args.header.counts = c.lines_due-due.ensures in
-    sound-ends text c.loop-line.line c.loop-line.at c.loop-line.invariant (omega (arith, ap lines_due c.requires.counts-are))

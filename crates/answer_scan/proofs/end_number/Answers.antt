@@ -22,13 +22,13 @@ returns-then-is_values-2 c =
     rw (values-is c.args.progress (sym c.is_values.ensures ∙ c.if-is_values.true))
     (number_read begun c.requires.0 c.requires.1 (rw part at c.read_value-read.ensures) (sym c.is_values-then-is_values.ensures ∙ c.if-is_values-2.true))
 
-pub returns-then-is_values : goal.returns-then-is_values
-returns-then-is_values c =
+pub returns-else-is_values-2 : goal.returns-else-is_values-2
+returns-else-is_values-2 c =
     let begun = c.args.begun.now in
     let part = take_all (length begun - 2) (drop 2 begun) (rw length-drop (omega arith)) in
     rw (values-is c.args.progress (sym c.is_values.ensures ∙ c.if-is_values.true))
     (number-malformed begun c.requires.0 c.requires.1 (rw part at c.read_value-read.ensures) (sym c.is_values-then-is_values.ensures ∙ c.if-is_values-2.false))
 
-pub returns : goal.returns
-returns c =
+pub returns-else-is_values : goal.returns-else-is_values
+returns-else-is_values c =
     number-elsewhere c.args.begun.now c.requires.0 c.args.progress (sym c.is_values.ensures ∙ c.if-is_values.false)

@@ -1,5 +1,6 @@
 -- `answer_scan::scan_end` meets its contract: no line is begun, and what the progress makes of no more lines.
 
+use Rattle.std.proofs.Common.{inl, inr}
 use native.Mathlib.Omega.{arith}
 use Rattle.answer_lines.proofs.Written.{as_written}
 use Rattle.answer_scan.proofs.Pieces.{end-begun, end-no-status, end-values, end-satisfiable, end-unsatisfiable, end-malformed}
@@ -15,10 +16,11 @@ pub returns-in-Unsatisfiable : goal.returns-in-Unsatisfiable
 returns-in-Unsatisfiable c = record { answer = λ seen signs b. end-unsatisfiable c.args.scan b (omega arith) c.in-Unsatisfiable.is; written = as_written }
 
 pub returns-in-NoStatus : goal.returns-in-NoStatus
-returns-in-NoStatus c = record { answer = λ seen signs b. end-no-status c.args.scan b (omega arith) c.in-NoStatus.is; written = as_written }
-
-pub returns-in-Values : goal.returns-in-Values
-returns-in-Values c = record { answer = λ seen signs b. end-values c.args.scan b (omega arith) c.in-Values.is; written = as_written }
-
-pub returns-in-Malformed : goal.returns-in-Malformed
-returns-in-Malformed c = record { answer = λ seen signs b. end-malformed c.args.scan b (omega arith) c.in-Malformed.is; written = as_written }
+returns-in-NoStatus c = record {
+  answer =
+      λ seen signs b. elim c.in-NoStatus.is [
+        | inl e ↦ end-no-status c.args.scan b (omega arith) e
+        | inr later ↦ elim later [ inl e ↦ end-values c.args.scan b (omega arith) e | inr e ↦ end-malformed c.args.scan b (omega arith) e ]
+      ];
+  written = as_written;
+}
