@@ -43,10 +43,8 @@ fn any_unclear(signs: &SignTable, first: u32, count: u32) -> bool
     ensures { result ≡ any_below count (λ x. unclear_in signs.now (first + x)) }
 {
     let mut any = false;
-    let mut x: u32 = 0;
-    while x < count {
-        any = any | answer_signs::is_unclear(signs, first + x);
-        x += 1;
+    for x in 0..count {
+        any |= answer_signs::is_unclear(signs, first + x);
     }
     any
 }
@@ -57,10 +55,8 @@ fn put_values(table: &mut SourceValues, signs: &SignTable, first: u32, count: u3
     ensures { (length table.new ≡ 600)
         × ((x : ℕ) → x < count → entry table.new x ≡ true_in signs.now (first + x)) }
 {
-    let mut x: u32 = 0;
-    while x < count {
+    for x in 0..count {
         table[x as usize] = answer_signs::is_true(signs, first + x);
-        x += 1;
     }
 }
 
@@ -70,10 +66,8 @@ fn word_of(signs: &SignTable, first: u32, count: u32) -> u32
     ensures { result ≡ from_bits count (λ t. true_in signs.now (first + t)) }
 {
     let mut word = 0;
-    let mut t: u32 = 0;
-    while t < count {
+    for t in 0..count {
         word = circuit_values::with_bit(word, t, answer_signs::is_true(signs, first + t));
-        t += 1;
     }
     word
 }
@@ -94,10 +88,8 @@ pub fn put_line(out: &mut [u8], values: &WireValues, net: Netlist) -> usize
     ensures { Wrote (frame_line (alone net) (entry values.now)) out.old out.new result }
 {
     let wires = netlist::wire_count(net) as usize;
-    let mut w: usize = 0;
-    while w < wires {
+    for w in 0..wires {
         out[w] = digit(values[w + 1]);
-        w += 1;
     }
     out[wires] = b'\n';
     wires + 1

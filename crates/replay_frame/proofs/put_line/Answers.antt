@@ -13,74 +13,24 @@ use Rattle.replay_frame.specs.Replay.{digit_of}
 use Rattle.replay_frame.proofs.Replay.{line-ended}
 use Rattle.replay_frame.proofs.put_line.Goals as goal
 
-pub wire_count-wires-requires : goal.wire_count-wires-requires
-wire_count-wires-requires c =
-    c.requires.0
-
-pub overflow_cast-wires : goal.overflow_cast-wires
-unfolding net_of
-overflow_cast-wires c =
-    omega (arith, c.requires, c.wire_count-wires.ensures)
-
 pub loop-w-init : goal.loop-w-init
-loop-w-init c =
-    (omega arith, refl, sym (delivered-none _ _))
-
-pub overflow_add-w : goal.overflow_add-w
-unfolding net_of
-overflow_add-w c =
-    omega (arith, c.requires, c.wire_count-wires.ensures)
-
-pub bounds-values-w : goal.bounds-values-w
-unfolding net_of
-bounds-values-w c =
-    omega (arith, c.requires, c.wire_count-wires.ensures, c.requires.0.wires-fit)
-
-pub digit-requires : goal.digit-requires
-digit-requires c =
-    tt
-
-pub bounds-out-w : goal.bounds-out-w
-unfolding net_of
-bounds-out-w c =
-    omega (arith, c.requires, c.wire_count-wires.ensures, c.loop-w.invariant.1)
-
-pub overflow_add-w-in-loop-w : goal.overflow_add-w-in-loop-w
-unfolding net_of
-overflow_add-w-in-loop-w c =
-    omega (arith, c.requires, c.wire_count-wires.ensures)
-
-pub loop-w-smaller : goal.loop-w-smaller
-unfolding net_of
-loop-w-smaller c =
-    omega (arith, c.requires, c.wire_count-wires.ensures)
+loop-w-init c = (refl, sym (delivered-none _ _))
 
 pub loop-w-preserved : goal.loop-w-preserved
 unfolding net_of
 loop-w-preserved c =
     let e : c.loop-w.w + 1 ≡ 1 + c.loop-w.w = omega arith in (
-      omega arith,
-      simp length-set c.loop-w.invariant.1,
-      rw (c.loop-w.invariant.2, c.digit.ensures ∙ ap (λ x. digit_of (entry c.args.values.now x)) e, add-one)
+      simp length-set c.loop-w.invariant.0,
+      rw (c.loop-w.invariant.1, c.digit.ensures ∙ ap (λ x. digit_of (entry c.args.values.now x)) e, add-one)
           (delivered-next (λ x. digit_of (entry c.args.values.now (1 + x))) c.args.out.now c.loop-w.w (omega (arith, c.requires, c.wire_count-wires.ensures))),
     )
 
-pub bounds-out-wires : goal.bounds-out-wires
-unfolding net_of
-bounds-out-wires c =
-    omega (arith, c.requires, c.wire_count-wires.ensures, c.loop-w.invariant.1)
-
-pub overflow_add-result : goal.overflow_add-result
-unfolding net_of
-overflow_add-result c =
-    omega (arith, c.requires, c.wire_count-wires.ensures)
-
 pub shape_of-out : goal.shape_of-out
 shape_of-out c =
-    simp length-set c.loop-w.invariant.1
+    simp length-set c.loop-w.invariant.0
 
 pub returns : goal.returns
 unfolding net_of
 returns c =
     let all : c.loop-w.w ≡ last_wire (alone c.args.net) = omega (arith, c.wire_count-wires.ensures) in
-    rw (c.loop-w.invariant.2, all, c.wire_count-wires.ensures) (line-ended (alone c.args.net) (entry c.args.values.now) c.args.out.now (omega (arith, c.requires.1)))
+    rw (c.loop-w.invariant.1, all, c.wire_count-wires.ensures) (line-ended (alone c.args.net) (entry c.args.values.now) c.args.out.now (omega (arith, c.requires.1)))

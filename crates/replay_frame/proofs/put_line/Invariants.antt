@@ -1,6 +1,6 @@
 -- `replay_frame::put_line` meets its contract. The loop's invariant: the digits of the first w wires stand before what was there.
 
-use Prim.Native.Nat.{◌+◌, ◌-◌, ◌≤◌}
+use Prim.Native.Nat.{◌+◌}
 use mathlib.Core.Path.{◌≡◌}
 use lib.ListN.{length}
 use Rattle.netlist.specs.WireTable.{entry}
@@ -10,7 +10,4 @@ use Rattle.replay_frame.proofs.put_line.Given as goal
 
 abbrev pub invariant-loop-w : goal.invariant-loop-w
 invariant-loop-w l =
-    (l.w ≤ l.wires) × (length l.out ≡ length l.initial.out) × (l.out ≡ delivered l.w (λ x. digit_of (entry l.values (1 + x))) l.initial.out)
-
-abbrev pub decreases-loop-w : goal.decreases-loop-w
-decreases-loop-w l = l.wires - l.w
+    (length l.out ≡ length l.initial.out) × (l.out ≡ delivered l.w (λ x. digit_of (entry l.values (1 + x))) l.initial.out)
