@@ -10,11 +10,13 @@ use borrow.Author.Tests.{eq-eqb, ne_eqb}
 use lib.Dec.{eqb}
 use lib.IntN.{ℤ, pos, negsuc}
 use lib.ListN.{length, get_or, take, drop}
-use lib.Seq.{take-suc, take-append_seam}
+use lib.Seq.{take-append_seam}
 use lib.Signed.{mag}
 use mir.Syntax.{w32}
-use mir.Val.{SFits, to_z, of_z}
+use mir.Val.{to_z, of_z}
 use mir.ValLaws.{to_z-of_z}
+use Rattle.std.specs.Prelude.{nat_abs, count_by}
+use Rattle.std.proofs.lemmas.List.Recursion.{is_count_by}
 use Rattle.model.specs.Netlist.{Netlist, Start, given, unknown, start, ports, IsPort}
 use Rattle.model.specs.Gather.{gather}
 use Rattle.model.specs.Acceptance.{SizesFit, Accepted}
@@ -34,19 +36,6 @@ use Rattle.netlist.specs.declared.Netlist as R
 use Rattle.netlist.specs.NetOf.{net_of}
 use Rattle.group_counts.specs.PairCounts.{group_count, ports_count, pair_counts}
 
--- the end mark, and any other number, as a machine tells them, by their bits
-pub ends-mark : (z : ℤ) → SFits w32 z → of_z w32 z ≡ 0 → length (clauses_in (z ∷ [])) ≡ 1
-unfolding clauses_in split_after
-ends-mark z f e =
-    let zero_is : z ≡ pos 0 = sym (to_z-of_z w32 z f) ∙ ap (to_z w32) e in
-    rw zero_is
-
-pub ends-other : (z : ℤ) → (of_z w32 z ≡ 0 → ⊥) → length (clauses_in (z ∷ [])) ≡ 0
-unfolding clauses_in split_after
-ends-other (pos zero) n = absurd (n refl)
-ends-other (pos (suc v)) n = refl
-ends-other (negsuc v) n = refl
-
 -- how many clauses there are does not depend on what stands before
 split-length : (b d zs : List ℤ) → length (split_after b zs) ≡ length (split_after d zs)
 unfolding split_after
@@ -55,22 +44,20 @@ split-length b d (pos zero ∷ zs) = refl
 split-length b d (pos (suc v) ∷ zs) = split-length (b ++ pos (suc v) ∷ []) (d ++ pos (suc v) ∷ []) zs
 split-length b d (negsuc v ∷ zs) = split-length (b ++ negsuc v ∷ []) (d ++ negsuc v ∷ []) zs
 
-split-append : (b zs ys : List ℤ) → length (split_after b (zs ++ ys)) ≡ length (split_after b zs) + length (split_after [] ys)
-unfolding split_after
-split-append b [] ys = split-length b [] ys ∙ omega arith
-split-append b (pos zero ∷ zs) ys = omega (arith, split-append [] zs ys)
-split-append b (pos (suc v) ∷ zs) ys = split-append (b ++ pos (suc v) ∷ []) zs ys
-split-append b (negsuc v ∷ zs) ys = split-append (b ++ negsuc v ∷ []) zs ys
+-- each clause ends with the one end mark
+pub ends-counted : (zs : List ℤ) → length (clauses_in zs) ≡ count_by (λ (z : ℤ). eqb (nat_abs z) 0) zs
+unfolding clauses_in split_after
+ends-counted zs = is_count_by (λ (ys : List ℤ). length (split_after [] ys)) (λ (z : ℤ). eqb (nat_abs z) 0) refl each zs
+  where
+    each : (z : ℤ) (ys : List ℤ)
+        → length (split_after [] (z ∷ ys)) ≡ cond (eqb (nat_abs z) 0) (1 + length (split_after [] ys)) (length (split_after [] ys))
+    each (pos zero) ys = omega arith
+    each (pos (suc v)) ys = rw (ne_eqb (suc v) 0 (λ e. omega arith)) (split-length (pos (suc v) ∷ []) [] ys)
+    each (negsuc v) ys = rw (ne_eqb (suc v) 0 (λ e. omega arith)) (split-length (negsuc v ∷ []) [] ys)
 
 -- a number of a slice as a machine reads it
 pub element-is : (zs : List ℤ) (i : ℕ) → mag (get_or zs i (pos 0)) < 2 ^ 31 → to_z w32 (of_z w32 (get_or zs i (pos 0))) ≡ get_or zs i (pos 0)
 element-is zs i h = to_z-of_z w32 (get_or zs i (pos 0)) (record { sfits = h })
-
--- one number more
-pub ends_next : (zs : List ℤ) (i : ℕ) → i < length zs
-    → length (clauses_in (take (suc i) zs)) ≡ length (clauses_in (take i zs)) + length (clauses_in (get_or zs i (pos 0) ∷ []))
-unfolding clauses_in
-ends_next zs i h = ap (λ ys. length (split_after [] ys)) (take-suc zs i (pos 0) h) ∙ split-append [] (take i zs) (get_or zs i (pos 0) ∷ [])
 
 -- what was written stands in front
 pub wrote-front : {A : Type 0} {xs old new : List A} {r : ℕ} → Wrote xs old new r → take r new ≡ xs

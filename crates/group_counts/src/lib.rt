@@ -14,27 +14,11 @@ ghost use Rattle.group_counts.specs.PairCounts.{group_count, ports_count, pair_c
 use model::Group;
 use netlist::{Netlist, UnpackedList};
 
-// The clauses that a number ends: the end mark one, any other none.
-fn count_end(z: i32) -> usize
-    ensures { (result ≡ length (clauses_in (z ∷ []))) × (result ≤ 1) }
-{
-    if z == 0 {
-        return 1;
-    }
-    0
-}
-
-// The clauses in a list of numbers.
+// The clauses in a list of numbers: each ends with the end mark.
 fn count_ends(numbers: &[i32]) -> usize
     ensures { (result ≡ length (clauses_in numbers.now)) × (result ≤ length numbers.now) }
 {
-    let mut ends = 0;
-    let mut i = 0;
-    while i < numbers.len() {
-        ends = ends + count_end(numbers[i]);
-        i += 1;
-    }
-    ends
+    numbers.iter().filter(|z| **z == 0).count()
 }
 
 // The clauses of a group that are written. `numbers` is scratch: nothing is said of what it holds.
