@@ -6,7 +6,7 @@ use mathlib.Core.List.{List}
 use native.Mathlib.Omega.{arith}
 use lib.ListN.{length}
 use Rattle.std.specs.Prelude.{Ok, Err}
-use Rattle.refusals.specs.Verdict.{Verdict, Passed, refuse}
+use Rattle.refusals.specs.Verdict.{Verdict, Passed}
 use Rattle.refusals.specs.Slices.{contents_after}
 use Rattle.model.specs.Netlist as M
 use Rattle.model.specs.Acceptance.{Accepted}

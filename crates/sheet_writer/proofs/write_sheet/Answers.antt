@@ -1,6 +1,6 @@
 -- `sheet_writer::write_sheet` meets its contract: the tests of the record, that of the room, and the sheet.
 
-use mathlib.Core.Path.{◌≡◌, sym, ◌∙◌}
+use mathlib.Core.Path.{◌≡◌, sym}
 use mathlib.Core.List.{[]}
 use native.Mathlib.Omega.{arith}
 use lib.ListN.{length}
