@@ -36,14 +36,6 @@ pub marks-none : {f : ℕ → ℕ} {p base : ℕ} {marks : List Bool} → ((x : 
     → ((v : ℕ) → base ≤ v → seen f p v ≡ false) → Marks f p base marks
 marks-none {f} {p} {base} none unseen = record { has = λ x l. none x l ∙ sym (unseen (base + x) (omega arith)) }
 
--- a table with one entry more cleared
-pub cleared_more : (marks : List Bool) (i : ℕ) → i < length marks → ((x : ℕ) → x < i → get_or marks x false ≡ false)
-    → (x : ℕ) → x < i + 1 → get_or (set marks i false) x false ≡ false
-cleared_more marks i l none x k =
-    by_cases (ℕ_discrete x i)
-    (λ e. rw e (get_or-set_same marks i false false l))
-    (λ n. get_or-set_other marks i x false false n ∙ none x (omega arith))
-
 pub length-with_mark : (base v : ℕ) (marks : List Bool) → length (with_mark base v marks) ≡ length marks
 unfolding with_mark
 length-with_mark base v marks = here (leb base v)

@@ -3,7 +3,7 @@
 // text is read again for the next block that a line names.
 #![tactic(auto)]
 
-ghost use Rattle.std.specs.Prelude.{◌≡◌, false, ℕ, suc, ◌+◌, ◌/◌, ◌≤◌, ◌<◌, min, length, get_or};
+ghost use Rattle.std.specs.Prelude.{◌≡◌, false, ℕ, suc, ◌+◌, ◌/◌, ◌≤◌, ◌<◌, length, get_or};
 ghost use Rattle.model.specs.Search.{IsFirst};
 ghost use Rattle.aiger_lines.specs.Parts.{counts_in, lines_due, malformed_at};
 ghost use Rattle.aiger_lines.specs.Steps.{Behind, HeaderRead, SoundTo};
@@ -136,11 +136,7 @@ fn clear(marks: &mut [bool])
     ensures { (length marks.new ≡ length marks.old)
         × ((x : ℕ) → x < length marks.old → get_or marks.new x false ≡ false) }
 {
-    let mut i = 0;
-    while i < marks.len() {
-        marks[i] = false;
-        i += 1;
-    }
+    marks.fill(false);
 }
 
 // Marks a variable that lies in the block from `base` on.
@@ -163,26 +159,17 @@ fn is_found(marks: &[bool], base: u64, v: u64, mark: bool) -> bool
         return false;
     }
     let x = (v - base) as usize;
-    if marks.len() <= x {
-        return false;
-    }
-    marks[x] == mark
+    x < marks.len() && marks[x] == mark
 }
 
 // The smaller of `next` and a variable behind the block.
 fn nearer(base: u64, size: usize, next: u64, v: u64) -> u64
     ensures { result ≡ nearest base size next v }
 {
-    if v < base {
+    if v < base || ((v - base) as usize) < size {
         return next;
     }
-    if ((v - base) as usize) < size {
-        return next;
-    }
-    if v < next {
-        return v;
-    }
-    next
+    next.min(v)
 }
 
 // Looks at one line.
@@ -197,25 +184,13 @@ fn look_at(marks: &[bool], base: u64, line: u64, uses: Uses, found: Found) -> Fo
     );
     let fault = is_found(marks, base, uses.first, uses.marked)
         | is_found(marks, base, uses.second, uses.marked);
-    if fault {
-        if line < found.first {
-            return Found { first: line, next };
-        }
+    if fault && line < found.first {
+        return Found { first: line, next };
     }
     Found {
         first: found.first,
         next,
     }
-}
-
-// The smaller of two numbers.
-fn smaller(a: u64, b: u64) -> u64
-    ensures { result ≡ min a b }
-{
-    if a < b {
-        return a;
-    }
-    b
 }
 
 // Reads the line behind the first `line` lines, a well-formed one.
@@ -253,14 +228,12 @@ fn pass(
         first: lines,
         next: 4294967296,
     };
-    let mut line = 1;
-    while line < lines {
+    for line in 1..lines {
         let read = next_variables(text, counts, line, at);
         let variables = read.variables;
         found = look_at(marks, base, line, uses_of(look, variables), found);
         mark(marks, base, variables.defined);
         at = read.next;
-        line += 1;
     }
     found
 }
@@ -297,8 +270,8 @@ fn undefined_in_block(
     let operands = pass(text, header, lines, base, marks, Look::Operands);
     let others = pass(text, header, lines, base, marks, Look::Others);
     Found {
-        first: smaller(operands.first, others.first),
-        next: smaller(operands.next, others.next),
+        first: operands.first.min(others.first),
+        next: operands.next.min(others.next),
     }
 }
 
@@ -338,7 +311,7 @@ fn first_fault(text: &[u8], header: HeaderLine, lines: u64, fault: Fault) -> u64
     let mut base = 1;
     while base < 4294967296 {
         let found = fault_in_block(text, header, lines, base, &mut marks, fault);
-        first = smaller(first, found.first);
+        first = first.min(found.first);
         base = found.next;
     }
     first

@@ -22,11 +22,9 @@ pub fn put_difference(out: &mut [u8], x: u32) -> usize
 {
     let last = difference_length(x) - 1;
     let mut rest = x;
-    let mut i = 0;
-    while i < last {
+    for i in 0..last {
         out[i] = 128 + ((rest % 128) as u8);
         rest = rest / 128;
-        i += 1;
     }
     out[last] = rest as u8;
     last + 1

@@ -32,10 +32,8 @@ fn put_nexts(out: &mut [u8], order: FileOrder, latches: &UnpackedList, count: u3
     ensures { Wrote (gather count (next_text order latches.now)) out.old out.new result × (result ≤ count * 5) }
 {
     let mut at: usize = 0;
-    let mut l: u32 = 0;
-    while l < count {
-        at = at + put_next(&mut out[at..], order, latches, l);
-        l = l + 1;
+    for l in 0..count {
+        at += put_next(&mut out[at..], order, latches, l);
     }
     at
 }
@@ -56,10 +54,8 @@ fn put_outputs(out: &mut [u8], order: FileOrder, net: Netlist) -> usize
 {
     let count = net.m + net.n + 3;
     let mut at: usize = 0;
-    let mut o: u32 = 0;
-    while o < count {
-        at = at + put_output(&mut out[at..], order, net, o);
-        o = o + 1;
+    for o in 0..count {
+        at += put_output(&mut out[at..], order, net, o);
     }
     at
 }
@@ -87,10 +83,8 @@ fn put_gates(out: &mut [u8], order: FileOrder, gates: &UnpackedList, count: u32)
     ensures { Wrote (gather count (gate_text_at order gates.now)) out.old out.new result × (result ≤ count * 4) }
 {
     let mut at: usize = 0;
-    let mut g: u32 = 0;
-    while g < count {
-        at = at + put_gate_at(&mut out[at..], order, gates, g);
-        g = g + 1;
+    for g in 0..count {
+        at += put_gate_at(&mut out[at..], order, gates, g);
     }
     at
 }

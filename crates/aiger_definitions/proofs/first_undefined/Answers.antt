@@ -1,12 +1,7 @@
 -- `aiger_definitions::first_undefined` meets its contract.
 
-use native.Mathlib.Omega.{arith}
 use Rattle.aiger_definitions.proofs.Definitions.{undefined-first}
 use Rattle.aiger_definitions.proofs.first_undefined.Goals as goal
-
-pub first_fault-requires : goal.first_fault-requires
-first_fault-requires c =
-    (c.requires.0, rw c.lines_due.ensures (record { some-line = omega arith; sound = c.requires.1.sound }))
 
 pub returns : goal.returns
 returns c =

@@ -8,10 +8,10 @@ pub returns-then-v-base : goal.returns-then-v-base
 unfolding is_found
 returns-then-v-base c = rw (lt-leb _ _ c.if-v-base.true)
 
-pub returns-then-marks-x : goal.returns-then-marks-x
+pub returns-then-x-marks : goal.returns-then-x-marks
 unfolding is_found
-returns-then-marks-x c = rw (le-leb _ _ c.if-v-base.false, le-ltb _ _ c.if-marks-x.true)
+returns-then-x-marks c = rw (le-leb _ _ c.if-v-base.false, lt-ltb _ _ c.if-x-marks.true)
 
-pub returns : goal.returns
+pub returns-else-x-marks : goal.returns-else-x-marks
 unfolding is_found
-returns c = rw (le-leb _ _ c.if-v-base.false, lt-ltb _ _ c.if-marks-x.false)
+returns-else-x-marks c = rw (le-leb _ _ c.if-v-base.false, le-ltb _ _ c.if-x-marks.false)

@@ -1,8 +1,6 @@
 -- `aiger_definitions::pass` meets its contract. The loop's invariant: the lines passed were looked at, and the next begins at `at`.
 
-use Prim.Native.Nat.{◌-◌}
 use mathlib.Core.Path.{◌≡◌}
-use lib.ListN.{length}
 use Rattle.aiger_lines.specs.Parts.{counts_in}
 use Rattle.aiger_lines.specs.Steps.{Behind}
 use Rattle.aiger_definitions.proofs.Passes.{Passed}
@@ -10,7 +8,4 @@ use Rattle.aiger_definitions.proofs.pass.Given as goal
 
 abbrev pub invariant-loop-line : goal.invariant-loop-line
 invariant-loop-line l =
-    Passed l.look l.text l.lines l.base l.line l.marks l.found × Behind l.text l.line l.at × (l.counts ≡ counts_in l.text) × (length l.marks ≡ length l.initial.marks)
-
-abbrev pub decreases-loop-line : goal.decreases-loop-line
-decreases-loop-line l = l.lines - l.line
+    Passed l.look l.text l.lines l.base l.line l.marks l.found × Behind l.text l.line l.at × (l.counts ≡ counts_in l.text)

@@ -2,16 +2,12 @@
 
 use mathlib.Core.Path.{sym, ap}
 use native.Mathlib.Omega.{arith}
-use lib.Count.{leading_le}
 use lib.ListN.{length}
 use Rattle.aiger_difference.proofs.Difference.{bytes-single, zeros-bytes}
 use Rattle.aiger_difference.proofs.difference_length.Goals as goal
 
 pub returns-then-x-eq0 : goal.returns-then-x-eq0
 returns-then-x-eq0 c = sym (ap length (bytes-single c.args.x (omega arith)))
-
-pub overflow_sub-result : goal.overflow_sub-result
-overflow_sub-result c = omega (arith, leading_le 32 c.args.x)
 
 pub returns : goal.returns
 returns c = sym (zeros-bytes c.args.x (omega arith) c.ranges.x.fits)

@@ -4,7 +4,7 @@ use Prim.Native.Nat.{ℕ, ◌+◌, ◌-◌, ◌/◌, ◌%◌, ◌≤◌, ◌<◌
 use mathlib.Core.Path.{◌≡◌, refl, sym, ap, ◌∙◌}
 use mathlib.Core.List.{List, [], ◌∷◌, ◌++◌, append_assoc}
 use native.Mathlib.Omega.{arith}
-use lib.ListN.{length, set, length-set}
+use lib.ListN.{length, set}
 use Rattle.model.specs.Wrote.{Wrote}
 use Rattle.text_writer.proofs.Writing.{wrote-next}
 use Rattle.aiger_difference.specs.Difference.{difference_bytes}
@@ -36,43 +36,20 @@ pub loop-i-init : goal.loop-i-init
 loop-i-init c =
     let some = length-bytes-some c.args.x in
     let count = c.difference_length-last.ensures in
-    (omega arith, refl, omega (arith, count, some), omega (arith, count, some, c.requires), ([], record { counted = refl; leaves = refl }, refl))
-
-pub overflow_cast-out : goal.overflow_cast-out
-overflow_cast-out c = omega arith
-
-pub overflow_add-out : goal.overflow_add-out
-overflow_add-out c = omega arith
-
-pub bounds-out-i : goal.bounds-out-i
-bounds-out-i c = omega arith
-
-pub overflow_add-i : goal.overflow_add-i
-overflow_add-i c = omega arith
-
-pub loop-i-smaller : goal.loop-i-smaller
-loop-i-smaller c = omega arith
+    (omega (arith, count, some), omega (arith, count, some, c.requires), ([], record { counted = refl; leaves = refl }, refl))
 
 pub loop-i-preserved : goal.loop-i-preserved
 loop-i-preserved c =
     let next = bytes-more c.loop-i.rest (more-from c.loop-i.rest (omega arith)) in (
-      omega arith,
-      simp length-set (omega arith),
       omega (arith, ap length next),
       omega arith,
-      going_on c.args.x c.args.out.now c.loop-i.out c.loop-i.rest c.loop-i.i (omega arith) (omega arith) c.loop-i.invariant.4,
+      going_on c.args.x c.args.out.now c.loop-i.out c.loop-i.rest c.loop-i.i (omega arith) (omega arith) c.loop-i.invariant.2,
     )
 
 pub overflow_cast-out-2 : goal.overflow_cast-out-2
 overflow_cast-out-2 c = omega (arith, single-below c.loop-i.rest (omega arith))
 
-pub bounds-out-last : goal.bounds-out-last
-bounds-out-last c = omega arith
-
-pub overflow_add-result : goal.overflow_add-result
-overflow_add-result c = omega arith
-
 pub returns : goal.returns
 returns c =
     let e : c.loop-i.i ≡ c.difference_length-last.result - 1 = omega arith in
-    rw e at (going-ends c.args.x c.args.out.now c.loop-i.out c.loop-i.rest c.loop-i.i (omega arith) (omega arith) c.loop-i.invariant.4)
+    rw e at (going-ends c.args.x c.args.out.now c.loop-i.out c.loop-i.rest c.loop-i.i (omega arith) (omega arith) c.loop-i.invariant.2)

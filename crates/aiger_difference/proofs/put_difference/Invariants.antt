@@ -1,6 +1,6 @@
 -- `aiger_difference::put_difference` meets its contract. The loop's invariant: what is written and the bytes of `rest` are the bytes of x.
 
-use Prim.Native.Nat.{ℕ, ◌+◌, ◌-◌, ◌≤◌}
+use Prim.Native.Nat.{ℕ, ◌+◌, ◌≤◌}
 use mathlib.Core.Path.{◌≡◌}
 use mathlib.Core.List.{List, ◌++◌}
 use lib.ListN.{length}
@@ -14,7 +14,4 @@ Going x old new rest i = (seen : List ℕ) × Wrote seen old new i × (seen ++ d
 
 abbrev pub invariant-loop-i : goal.invariant-loop-i
 invariant-loop-i l =
-    (l.i ≤ l.last) × (length l.out ≡ length l.initial.out) × (l.i + length (difference_bytes l.rest) ≡ l.last + 1) × (l.last + 1 ≤ length l.initial.out) × Going l.x l.initial.out l.out l.rest l.i
-
-abbrev pub decreases-loop-i : goal.decreases-loop-i
-decreases-loop-i l = l.last - l.i
+    (l.i + length (difference_bytes l.rest) ≡ l.last + 1) × (l.last + 1 ≤ length l.initial.out) × Going l.x l.initial.out l.out l.rest l.i

@@ -1,11 +1,11 @@
 -- `aiger_writer::put_gates` meets its contract. The loop has written the gates before g.
 
-use Prim.Native.Nat.{ℕ, ◌+◌, ◌-◌, ◌≤◌}
-use mathlib.Core.Path.{◌≡◌, refl, ◌∙◌}
+use Prim.Native.Nat.{ℕ, ◌+◌, ◌≤◌}
+use mathlib.Core.Path.{◌≡◌, refl}
 use mathlib.Core.List.{List}
 use native.Mathlib.Numerals.{add-one}
 use native.Mathlib.Omega.{arith}
-use borrow.Rule.Slice.PartMut.{mid_len, same_len_mid}
+use borrow.Rule.Slice.PartMut.{mid_len}
 use lib.ListN.{length}
 use Rattle.model.specs.Gather.{gather}
 use Rattle.model.proofs.Wrote.{wrote_then}
@@ -15,12 +15,12 @@ use Rattle.aiger_writer.proofs.put_gates.Goals.{In-loop-g}
 
 pub loop-g-init : goal.loop-g-init
 unfolding gather
-loop-g-init c = (omega arith, refl, omega arith, record { counted = refl; leaves = refl })
+loop-g-init c = (omega arith, record { counted = refl; leaves = refl })
 
 -- there is room for one more
 room : (c : In-loop-g) → c.loop-g.at + 4 ≤ length c.loop-g.out
 room c =
-    omega (arith, c.loop-g.invariant.1, c.loop-g.invariant.2, c.requires.1)
+    omega (arith, c.loop-g.invariant.0, c.requires.1)
 
 pub slice_bounds-put_gate_at-count : goal.slice_bounds-put_gate_at-count
 slice_bounds-put_gate_at-count c = omega (arith, room c)
@@ -40,20 +40,13 @@ pub loop-g-preserved : goal.loop-g-preserved
 unfolding gather
 loop-g-preserved c =
     let text = gate_text_at c.args.order c.args.gates.now in (
-      omega arith,
-      same_len_mid c.loop-g.at (length c.loop-g.out - c.loop-g.at) c.loop-g.out c.put_gate_at-at.new.out c.put_gate_at-at.auto.out ∙ c.loop-g.invariant.1,
-      omega (arith, c.loop-g.invariant.2, c.put_gate_at-at.ensures.1),
+      omega (arith, c.loop-g.invariant.0, c.put_gate_at-at.ensures.1),
       rw add-one
-          (wrote_then (gather c.loop-g.g text) (text c.loop-g.g) c.args.out.now c.loop-g.out c.put_gate_at-at.new.out c.loop-g.at c.put_gate_at-at.result c.loop-g.invariant.3 c.put_gate_at-at.ensures.0),
+          (wrote_then (gather c.loop-g.g text) (text c.loop-g.g) c.args.out.now c.loop-g.out c.put_gate_at-at.new.out c.loop-g.at c.put_gate_at-at.result c.loop-g.invariant.1 c.put_gate_at-at.ensures.0),
     )
 
 pub returns : goal.returns
 returns c =
     let all : c.loop-g.g ≡ c.args.count = omega arith in
-    (rw all at c.loop-g.invariant.3, rw all at c.loop-g.invariant.2)
+    (rw all at c.loop-g.invariant.1, rw all at c.loop-g.invariant.0)
 
-pub overflow_add-g : goal.overflow_add-g
-overflow_add-g c = omega arith
-
-pub loop-g-smaller : goal.loop-g-smaller
-loop-g-smaller c = omega arith

@@ -1,8 +1,6 @@
 -- `aiger_writer::put_gates` meets its contract. The loop has written the gates before g.
 
-use Prim.Native.Nat.{◌-◌, ◌*◌, ◌≤◌}
-use mathlib.Core.Path.{◌≡◌}
-use lib.ListN.{length}
+use Prim.Native.Nat.{◌*◌, ◌≤◌}
 use Rattle.model.specs.Gather.{gather}
 use Rattle.model.specs.Wrote.{Wrote}
 use Rattle.aiger_writer.specs.Parts.{gate_text_at}
@@ -10,7 +8,4 @@ use Rattle.aiger_writer.proofs.put_gates.Given as goal
 
 abbrev pub invariant-loop-g : goal.invariant-loop-g
 invariant-loop-g l =
-    (l.g ≤ l.count) × (length l.out ≡ length l.initial.out) × (l.at ≤ l.g * 4) × Wrote (gather l.g (gate_text_at l.order l.gates)) l.initial.out l.out l.at
-
-abbrev pub decreases-loop-g : goal.decreases-loop-g
-decreases-loop-g l = l.count - l.g
+    (l.at ≤ l.g * 4) × Wrote (gather l.g (gate_text_at l.order l.gates)) l.initial.out l.out l.at

@@ -1,11 +1,11 @@
 -- `aiger_writer::put_nexts` meets its contract. The loop has written the lines of the latches before l.
 
-use Prim.Native.Nat.{ℕ, ◌+◌, ◌-◌, ◌≤◌}
-use mathlib.Core.Path.{◌≡◌, refl, ◌∙◌}
+use Prim.Native.Nat.{ℕ, ◌+◌, ◌≤◌}
+use mathlib.Core.Path.{◌≡◌, refl}
 use mathlib.Core.List.{List}
 use native.Mathlib.Numerals.{add-one}
 use native.Mathlib.Omega.{arith}
-use borrow.Rule.Slice.PartMut.{mid_len, same_len_mid}
+use borrow.Rule.Slice.PartMut.{mid_len}
 use lib.ListN.{length}
 use Rattle.model.specs.Gather.{gather}
 use Rattle.model.proofs.Wrote.{wrote_then}
@@ -15,12 +15,12 @@ use Rattle.aiger_writer.proofs.put_nexts.Goals.{In-loop-l}
 
 pub loop-l-init : goal.loop-l-init
 unfolding gather
-loop-l-init c = (omega arith, refl, omega arith, record { counted = refl; leaves = refl })
+loop-l-init c = (omega arith, record { counted = refl; leaves = refl })
 
 -- there is room for one more
 room : (c : In-loop-l) → c.loop-l.at + 5 ≤ length c.loop-l.out
 room c =
-    omega (arith, c.loop-l.invariant.1, c.loop-l.invariant.2, c.requires.3)
+    omega (arith, c.loop-l.invariant.0, c.requires.3)
 
 pub slice_bounds-put_next-count : goal.slice_bounds-put_next-count
 slice_bounds-put_next-count c = omega (arith, room c)
@@ -40,20 +40,13 @@ pub loop-l-preserved : goal.loop-l-preserved
 unfolding gather
 loop-l-preserved c =
     let text = next_text c.args.order c.args.latches.now in (
-      omega arith,
-      same_len_mid c.loop-l.at (length c.loop-l.out - c.loop-l.at) c.loop-l.out c.put_next-at.new.out c.put_next-at.auto.out ∙ c.loop-l.invariant.1,
-      omega (arith, c.loop-l.invariant.2, c.put_next-at.ensures.1),
+      omega (arith, c.loop-l.invariant.0, c.put_next-at.ensures.1),
       rw add-one
-          (wrote_then (gather c.loop-l.l text) (text c.loop-l.l) c.args.out.now c.loop-l.out c.put_next-at.new.out c.loop-l.at c.put_next-at.result c.loop-l.invariant.3 c.put_next-at.ensures.0),
+          (wrote_then (gather c.loop-l.l text) (text c.loop-l.l) c.args.out.now c.loop-l.out c.put_next-at.new.out c.loop-l.at c.put_next-at.result c.loop-l.invariant.1 c.put_next-at.ensures.0),
     )
 
 pub returns : goal.returns
 returns c =
     let all : c.loop-l.l ≡ c.args.count = omega arith in
-    (rw all at c.loop-l.invariant.3, rw all at c.loop-l.invariant.2)
+    (rw all at c.loop-l.invariant.1, rw all at c.loop-l.invariant.0)
 
-pub overflow_add-l : goal.overflow_add-l
-overflow_add-l c = omega arith
-
-pub loop-l-smaller : goal.loop-l-smaller
-loop-l-smaller c = omega arith

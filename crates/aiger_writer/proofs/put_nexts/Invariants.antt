@@ -1,8 +1,6 @@
 -- `aiger_writer::put_nexts` meets its contract. The loop has written the lines of the latches before l.
 
-use Prim.Native.Nat.{◌-◌, ◌*◌, ◌≤◌}
-use mathlib.Core.Path.{◌≡◌}
-use lib.ListN.{length}
+use Prim.Native.Nat.{◌*◌, ◌≤◌}
 use Rattle.model.specs.Gather.{gather}
 use Rattle.model.specs.Wrote.{Wrote}
 use Rattle.aiger_writer.specs.Parts.{next_text}
@@ -10,7 +8,4 @@ use Rattle.aiger_writer.proofs.put_nexts.Given as goal
 
 abbrev pub invariant-loop-l : goal.invariant-loop-l
 invariant-loop-l lo =
-    (lo.l ≤ lo.count) × (length lo.out ≡ length lo.initial.out) × (lo.at ≤ lo.l * 5) × Wrote (gather lo.l (next_text lo.order lo.latches)) lo.initial.out lo.out lo.at
-
-abbrev pub decreases-loop-l : goal.decreases-loop-l
-decreases-loop-l lo = lo.count - lo.l
+    (lo.at ≤ lo.l * 5) × Wrote (gather lo.l (next_text lo.order lo.latches)) lo.initial.out lo.out lo.at

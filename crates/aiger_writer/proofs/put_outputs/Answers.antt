@@ -1,11 +1,11 @@
 -- `aiger_writer::put_outputs` meets its contract. The loop has written the lines of the outputs before o.
 
-use Prim.Native.Nat.{ℕ, ◌+◌, ◌-◌, ◌≤◌}
-use mathlib.Core.Path.{◌≡◌, refl, ◌∙◌}
+use Prim.Native.Nat.{ℕ, ◌+◌, ◌≤◌}
+use mathlib.Core.Path.{◌≡◌, refl}
 use mathlib.Core.List.{List}
 use native.Mathlib.Numerals.{add-one}
 use native.Mathlib.Omega.{arith}
-use borrow.Rule.Slice.PartMut.{mid_len, same_len_mid}
+use borrow.Rule.Slice.PartMut.{mid_len}
 use lib.ListN.{length}
 use Rattle.model.specs.Gather.{gather}
 use Rattle.model.proofs.Wrote.{wrote_then}
@@ -24,12 +24,12 @@ overflow_add-count-2 c = let fits = c.requires.1 in omega (arith, fits.m-most, f
 
 pub loop-o-init : goal.loop-o-init
 unfolding gather
-loop-o-init c = (omega arith, refl, omega arith, record { counted = refl; leaves = refl })
+loop-o-init c = (omega arith, record { counted = refl; leaves = refl })
 
 -- there is room for one more
 room : (c : In-loop-o) → c.loop-o.at + 5 ≤ length c.loop-o.out
 room c =
-    omega (arith, c.loop-o.invariant.1, c.loop-o.invariant.2, c.requires.3)
+    omega (arith, c.loop-o.invariant.0, c.requires.3)
 
 pub slice_bounds-put_output-count : goal.slice_bounds-put_output-count
 slice_bounds-put_output-count c = omega (arith, room c)
@@ -45,25 +45,17 @@ put_output-at-requires c =
 pub overflow_add-at : goal.overflow_add-at
 overflow_add-at c = omega (arith, room (goal.at.overflow_add-at c).In-loop-o, c.put_output-at.ensures.1)
 
-pub overflow_add-o : goal.overflow_add-o
-unfolding net_of
-overflow_add-o c = let fits = c.requires.1 in omega (arith, fits.m-most, fits.n-most)
-
 pub loop-o-preserved : goal.loop-o-preserved
 unfolding gather
 loop-o-preserved c =
     let text = output_text c.args.order (alone c.args.net) in (
-      omega arith,
-      same_len_mid c.loop-o.at (length c.loop-o.out - c.loop-o.at) c.loop-o.out c.put_output-at.new.out c.put_output-at.auto.out ∙ c.loop-o.invariant.1,
-      omega (arith, c.loop-o.invariant.2, c.put_output-at.ensures.1),
+      omega (arith, c.loop-o.invariant.0, c.put_output-at.ensures.1),
       rw add-one
-          (wrote_then (gather c.loop-o.o text) (text c.loop-o.o) c.args.out.now c.loop-o.out c.put_output-at.new.out c.loop-o.at c.put_output-at.result c.loop-o.invariant.3 c.put_output-at.ensures.0),
+          (wrote_then (gather c.loop-o.o text) (text c.loop-o.o) c.args.out.now c.loop-o.out c.put_output-at.new.out c.loop-o.at c.put_output-at.result c.loop-o.invariant.1 c.put_output-at.ensures.0),
     )
 
 pub returns : goal.returns
 returns c =
     let all : c.loop-o.o ≡ c.args.net.m + c.args.net.n + 3 = omega arith in
-    (rw all at c.loop-o.invariant.3, rw all at c.loop-o.invariant.2)
+    (rw all at c.loop-o.invariant.1, rw all at c.loop-o.invariant.0)
 
-pub loop-o-smaller : goal.loop-o-smaller
-loop-o-smaller c = omega arith

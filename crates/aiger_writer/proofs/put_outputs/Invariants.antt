@@ -1,8 +1,6 @@
 -- `aiger_writer::put_outputs` meets its contract. The loop has written the lines of the outputs before o.
 
-use Prim.Native.Nat.{◌+◌, ◌-◌, ◌*◌, ◌≤◌}
-use mathlib.Core.Path.{◌≡◌}
-use lib.ListN.{length}
+use Prim.Native.Nat.{◌*◌, ◌≤◌}
 use Rattle.model.specs.Gather.{gather}
 use Rattle.model.specs.Wrote.{Wrote}
 use Rattle.netlist.specs.NetOf.{alone}
@@ -11,7 +9,4 @@ use Rattle.aiger_writer.proofs.put_outputs.Given as goal
 
 abbrev pub invariant-loop-o : goal.invariant-loop-o
 invariant-loop-o l =
-    (l.o ≤ l.net.m + l.net.n + 3) × (length l.out ≡ length l.initial.out) × (l.at ≤ l.o * 5) × Wrote (gather l.o (output_text l.order (alone l.net))) l.initial.out l.out l.at
-
-abbrev pub decreases-loop-o : goal.decreases-loop-o
-decreases-loop-o l = l.net.m + l.net.n + 3 - l.o
+    (l.at ≤ l.o * 5) × Wrote (gather l.o (output_text l.order (alone l.net))) l.initial.out l.out l.at
