@@ -7,7 +7,7 @@ use native.Mathlib.Omega.{arith}
 use borrow.Author.Tests.{eq-eqb, ne_eqb, eqb-true, eqb-false, lt-ltb, le-ltb, ltb-true, ltb-false}
 use lib.Dec.{eqb, ltb}
 use lib.IntN.{ℤ, pos, negsuc, neg_ℤ, nat_abs}
-use lib.ListN.{length, get_or, set, get_or-eq_default}
+use lib.ListN.{length, get_or, set, replicate}
 use lib.Seq.{get_or-set_same, get_or-set_other}
 use lib.Signed.{mag}
 use mir.Syntax.{w32}
@@ -182,18 +182,8 @@ up_to-more marks turn s l u r = by-test (eqb r s) refl
 pub none-false : (marks : List ℕ) (turn : ℕ) → Before turn marks → (z : ℤ) → false_in marks turn z ≡ false
 none-false marks turn b z = ne_eqb (get_or marks (slot_of z) 0) turn (λ h. omega (arith, b (slot_of z)))
 
--- marks made 0 one after the other
-pub cleared_more : (marks : List ℕ) (i : ℕ) → i < length marks → ((s : ℕ) → s < i → get_or marks s 0 ≡ 0)
-    → (s : ℕ) → s < i + 1 → get_or (set marks i 0) s 0 ≡ 0
-cleared_more marks i l h s b = by-test (eqb s i) refl
-  where
-    by-test : (t : Bool) → eqb s i ≡ t → get_or (set marks i 0) s 0 ≡ 0
-    by-test true e = rw (eqb-true s i e, get_or-set_same marks i 0 0 l)
-    by-test false e = let d = eqb-false s i e in rw (get_or-set_other marks i s 0 0 d) (h s (omega arith))
-
-pub cleared-all : (marks : List ℕ) (i : ℕ) → length marks ≤ i → ((s : ℕ) → s < i → get_or marks s 0 ≡ 0) → UpTo 0 marks
-cleared-all marks i l h s = by-test (ltb s i) refl
-  where
-    by-test : (t : Bool) → ltb s i ≡ t → get_or marks s 0 ≤ 0
-    by-test true e = omega (arith, h s (ltb-true s i e))
-    by-test false e = let past = ltb-false s i e in rw (get_or-eq_default marks 0 {n = s} (omega arith)) (omega arith)
+-- no mark of as many zeros is of a turn
+pub up_to-zeros : (n : ℕ) → UpTo 0 (replicate n 0)
+up_to-zeros zero s = omega arith
+up_to-zeros (suc n) zero = omega arith
+up_to-zeros (suc n) (suc s) = up_to-zeros n s

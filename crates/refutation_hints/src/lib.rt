@@ -66,8 +66,7 @@ fn clause_outcome(known: &[i32], place: usize, marks: &[u32], turn: u32) -> usiz
 {
     let limit = marks.len() / 2 * 2;
     let mut outcome = 0;
-    let mut i = place;
-    while i < known.len() {
+    for i in place..known.len() {
         let s = slot(known[i]);
         if s == 0 {
             return outcome;
@@ -79,7 +78,6 @@ fn clause_outcome(known: &[i32], place: usize, marks: &[u32], turn: u32) -> usiz
         if outcome == 1 {
             return 1;
         }
-        i += 1;
     }
     1
 }
@@ -102,9 +100,8 @@ fn propagate(known: &[i32], hints: &[u32], marks: &mut [u32], turn: u32) -> bool
         hints.now }
     ensures scratch { UpTo turn marks.new }
 {
-    let mut i = 0;
-    while i < hints.len() {
-        let outcome = hint_outcome(known, hints[i] as usize, marks, turn);
+    for hint in hints {
+        let outcome = hint_outcome(known, *hint as usize, marks, turn);
         if outcome == 0 {
             return true;
         }
@@ -113,7 +110,6 @@ fn propagate(known: &[i32], hints: &[u32], marks: &mut [u32], turn: u32) -> bool
         }
         let other = opposite(outcome);
         marks[other] = turn;
-        i += 1;
     }
     false
 }
@@ -126,14 +122,12 @@ fn mark_lemma(lemma: &[i32], marks: &mut [u32], turn: u32) -> bool
     ensures scratch { UpTo turn marks.new }
 {
     let limit = marks.len() / 2 * 2;
-    let mut i = 0;
-    while i < lemma.len() {
-        let s = slot(lemma[i]);
+    for number in lemma {
+        let s = slot(*number);
         if limit <= s {
             return false;
         }
         marks[s] = turn;
-        i += 1;
     }
     true
 }
@@ -160,11 +154,7 @@ pub fn lemma_follows(
 pub fn clear(marks: &mut [u32])
     ensures { UpTo 0 marks.new }
 {
-    let mut i = 0;
-    while i < marks.len() {
-        marks[i] = 0;
-        i += 1;
-    }
+    marks.fill(0);
 }
 
 // The next turn, of which there is no mark yet. Behind the last one turns begin anew.

@@ -48,9 +48,6 @@ next c =
 pub loop-i-init : goal.loop-i-init
 loop-i-init c = zero-joined_code (code_in c.args.marks.now c.args.turn (drop c.args.place c.args.known.now))
 
-pub bounds-known-i : goal.bounds-known-i
-bounds-known-i c = omega arith
-
 pub returns-then-s-eq0 : goal.returns-then-s-eq0
 returns-then-s-eq0 c =
     let ends = outcome-end (length c.args.marks.now / 2) (false_in c.args.marks.now c.args.turn) c.args.known.now c.loop-i.i
@@ -65,9 +62,6 @@ returns-then-limit-s c =
     let past = rw (le-ltb (slot_of (get_or c.args.known.now c.loop-i.i (pos 0))) (length c.args.marks.now / 2 * 2) (rw is at c.if-limit-s.true)) at here in
     sym (joined_code-one c.loop-i.outcome) ∙ ap (joined_code c.loop-i.outcome) (sym past) ∙ c.loop-i.invariant
 
-pub bounds-marks-s : goal.bounds-marks-s
-bounds-marks-s c = omega arith
-
 pub join-outcome-requires : goal.join-outcome-requires
 join-outcome-requires c =
     let is = read (goal.at.join-outcome-requires c).After-slot-s in
@@ -78,12 +72,6 @@ pub returns-then-outcome-eq1 : goal.returns-then-outcome-eq1
 returns-then-outcome-eq1 c =
     let i = c.loop-i.i in
     sym (one-joined_code (code_in c.args.marks.now c.args.turn (drop (i + 1) c.args.known.now))) ∙ rw c.if-outcome-eq1.true at (next (goal.at.returns-then-outcome-eq1 c).After-join-outcome)
-
-pub overflow_add-i : goal.overflow_add-i
-overflow_add-i c = omega arith
-
-pub loop-i-smaller : goal.loop-i-smaller
-loop-i-smaller c = omega arith
 
 pub loop-i-preserved : goal.loop-i-preserved
 loop-i-preserved c = next (goal.at.loop-i-preserved c).After-join-outcome

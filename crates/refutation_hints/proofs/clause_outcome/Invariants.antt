@@ -1,6 +1,6 @@
 -- `refutation_hints::clause_outcome` meets its contract. The outcome of what was passed, joined with that of what is left, is that of the clause.
 
-use Prim.Native.Nat.{ℕ, ◌-◌, ◌/◌}
+use Prim.Native.Nat.{ℕ, ◌/◌}
 use mathlib.Core.Path.{◌≡◌}
 use mathlib.Core.List.{List}
 use lib.IntN.{ℤ}
@@ -17,6 +17,3 @@ code_in marks turn zs = code_of (first_outcome (length marks / 2) (false_in mark
 abbrev pub invariant-loop-i : goal.invariant-loop-i
 invariant-loop-i l =
     joined_code l.outcome (code_in l.marks l.turn (drop l.i l.known)) ≡ code_in l.marks l.turn (drop l.place l.known)
-
-abbrev pub decreases-loop-i : goal.decreases-loop-i
-decreases-loop-i l = length l.known - l.i

@@ -9,9 +9,6 @@ use Rattle.refutation_hints.specs.Propagation.{propagates, follows}
 use Rattle.refutation_hints.specs.Marks.{false_in}
 use Rattle.refutation_hints.proofs.lemma_follows.Goals as goal
 
-pub propagate-requires : goal.propagate-requires
-propagate-requires c = c.mark_lemma.ensures.scratch
-
 pub returns-then-mark_lemma : goal.returns-then-mark_lemma
 unfolding follows
 returns-then-mark_lemma c =

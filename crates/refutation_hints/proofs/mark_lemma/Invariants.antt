@@ -1,6 +1,6 @@
 -- `refutation_hints::mark_lemma` meets its contract. What is marked and what is left of the lemma are the lemma.
 
-use Prim.Native.Nat.{◌-◌, ◌/◌, ◌≤◌}
+use Prim.Native.Nat.{◌/◌}
 use mathlib.Core.Path.{◌≡◌}
 use mathlib.Core.Bool.{◌||◌}
 use lib.IntN.{ℤ}
@@ -10,11 +10,8 @@ use Rattle.refutation_hints.specs.Propagation.{every, within}
 use Rattle.refutation_hints.specs.Marks.{false_in, UpTo}
 use Rattle.refutation_hints.proofs.mark_lemma.Given as goal
 
-abbrev pub invariant-loop-i : goal.invariant-loop-i
-invariant-loop-i l =
-    (l.i ≤ length l.lemma) × (length l.marks ≡ length l.initial.marks) × UpTo l.turn l.marks
-    × (every (within (length l.initial.marks / 2)) (drop l.i l.lemma) ≡ every (within (length l.initial.marks / 2)) l.lemma)
-    × ((z : ℤ) → (false_in l.marks l.turn z || among z (drop l.i l.lemma)) ≡ among z l.lemma)
-
-abbrev pub decreases-loop-i : goal.decreases-loop-i
-decreases-loop-i l = length l.lemma - l.i
+abbrev pub invariant-loop-number : goal.invariant-loop-number
+invariant-loop-number l =
+    (length l.marks ≡ length l.initial.marks) × UpTo l.turn l.marks
+    × (every (within (length l.initial.marks / 2)) (drop l.number-index l.lemma) ≡ every (within (length l.initial.marks / 2)) l.lemma)
+    × ((z : ℤ) → (false_in l.marks l.turn z || among z (drop l.number-index l.lemma)) ≡ among z l.lemma)

@@ -36,36 +36,24 @@ propagates-none : (n : ℕ) (known : List ℤ) (f : ℤ → Bool) (hints : List 
 unfolding propagates
 propagates-none n known f hints i l = rw (drop_of_length-le hints l)
 
-pub loop-i-init : goal.loop-i-init
-loop-i-init c = (omega arith, refl, c.requires, refl)
-
-pub bounds-hints-i : goal.bounds-hints-i
-bounds-hints-i c = omega arith
-
-pub overflow_cast-hints : goal.overflow_cast-hints
-overflow_cast-hints c = omega arith
-
-pub shape_of-marks-then-outcome-eq0 : goal.shape_of-marks-then-outcome-eq0
-shape_of-marks-then-outcome-eq0 c = c.loop-i.invariant.1
+pub loop-hint-init : goal.loop-hint-init
+loop-hint-init c = (refl, c.requires, refl)
 
 pub returns-then-outcome-eq0 : goal.returns-then-outcome-eq0
 returns-then-outcome-eq0 c =
-    let n = length c.loop-i.marks / 2 in
-    let f = false_in c.loop-i.marks c.args.turn in
-    let h = get_or c.args.hints.now c.loop-i.i 0 in
+    let n = length c.loop-hint.marks / 2 in
+    let f = false_in c.loop-hint.marks c.args.turn in
+    let h = get_or c.args.hints.now c.loop-hint.hint-index 0 in
     let is = code-conflict n (hint_outcome n c.args.known.now f h) (hint-sane n c.args.known.now f h) (sym c.hint_outcome-outcome.ensures ∙ c.if-outcome-eq0.true) in
-    record { answer = sym (propagates-conflict n c.args.known.now f c.args.hints.now c.loop-i.i c.loop-i-test.true is) ∙ c.loop-i.invariant.3; scratch = c.loop-i.invariant.2 }
-
-pub shape_of-marks-then-outcome-eq1 : goal.shape_of-marks-then-outcome-eq1
-shape_of-marks-then-outcome-eq1 c = c.loop-i.invariant.1
+    record { answer = sym (propagates-conflict n c.args.known.now f c.args.hints.now c.loop-hint.hint-index c.loop-hint-test.true is) ∙ c.loop-hint.invariant.2; scratch = c.loop-hint.invariant.1 }
 
 pub returns-then-outcome-eq1 : goal.returns-then-outcome-eq1
 returns-then-outcome-eq1 c =
-    let n = length c.loop-i.marks / 2 in
-    let f = false_in c.loop-i.marks c.args.turn in
-    let h = get_or c.args.hints.now c.loop-i.i 0 in
+    let n = length c.loop-hint.marks / 2 in
+    let f = false_in c.loop-hint.marks c.args.turn in
+    let h = get_or c.args.hints.now c.loop-hint.hint-index 0 in
     let is = code-undecided n (hint_outcome n c.args.known.now f h) (hint-sane n c.args.known.now f h) (sym c.hint_outcome-outcome.ensures ∙ c.if-outcome-eq1.true) in
-    record { answer = sym (propagates-undecided n c.args.known.now f c.args.hints.now c.loop-i.i c.loop-i-test.true is) ∙ c.loop-i.invariant.3; scratch = c.loop-i.invariant.2 }
+    record { answer = sym (propagates-undecided n c.args.known.now f c.args.hints.now c.loop-hint.hint-index c.loop-hint-test.true is) ∙ c.loop-hint.invariant.2; scratch = c.loop-hint.invariant.1 }
 
 -- the hint's clause is a unit
 its-unit : (known : List ℤ) (marks : List ℕ) (turn hint outcome : ℕ)
@@ -77,42 +65,32 @@ its-unit known marks turn hint outcome e no-conflict decided =
     code-unit n (hint_outcome n known f hint) (hint-sane n known f hint) (λ p. no-conflict (e ∙ p)) (λ p. decided (e ∙ p))
 
 pub opposite-other-requires : goal.opposite-other-requires
-opposite-other-requires c = omega (arith, c.hint_outcome-outcome.ensures, (its-unit c.args.known.now c.loop-i.marks c.args.turn (get_or c.args.hints.now c.loop-i.i 0) c.hint_outcome-outcome.result c.hint_outcome-outcome.ensures c.if-outcome-eq0.false c.if-outcome-eq1.false).least)
+opposite-other-requires c = omega (arith, c.hint_outcome-outcome.ensures, (its-unit c.args.known.now c.loop-hint.marks c.args.turn (get_or c.args.hints.now c.loop-hint.hint-index 0) c.hint_outcome-outcome.result c.hint_outcome-outcome.ensures c.if-outcome-eq0.false c.if-outcome-eq1.false).least)
 
 -- the mark of its opposite
-room : (c : After-opposite-other) → c.opposite-other.result < length c.loop-i.marks
-room c = omega (arith, c.hint_outcome-outcome.ensures, (its-unit c.args.known.now c.loop-i.marks c.args.turn (get_or c.args.hints.now c.loop-i.i 0) c.hint_outcome-outcome.result c.hint_outcome-outcome.ensures c.if-outcome-eq0.false c.if-outcome-eq1.false).most, c.opposite-other.ensures.1)
+room : (c : After-opposite-other) → c.opposite-other.result < length c.loop-hint.marks
+room c = omega (arith, c.hint_outcome-outcome.ensures, (its-unit c.args.known.now c.loop-hint.marks c.args.turn (get_or c.args.hints.now c.loop-hint.hint-index 0) c.hint_outcome-outcome.result c.hint_outcome-outcome.ensures c.if-outcome-eq0.false c.if-outcome-eq1.false).most, c.opposite-other.ensures.1)
 
 pub offset_bounds-marks-other : goal.offset_bounds-marks-other
 offset_bounds-marks-other c =
-    record { fits = omega (arith, room c, c.loop-i.invariant.1, c.well_formed.1.1.0.1) }
+    record { fits = omega (arith, room c, c.loop-hint.invariant.0, c.well_formed.1.1.0.1) }
 
 pub bounds-marks-other : goal.bounds-marks-other
 bounds-marks-other c = room c
 
-pub overflow_add-i : goal.overflow_add-i
-overflow_add-i c = omega arith
-
-pub loop-i-smaller : goal.loop-i-smaller
-loop-i-smaller c = omega arith
-
-pub loop-i-preserved : goal.loop-i-preserved
-loop-i-preserved c =
-    let n = length c.loop-i.marks / 2 in
-    let f = false_in c.loop-i.marks c.args.turn in
-    let u = its-unit c.args.known.now c.loop-i.marks c.args.turn (get_or c.args.hints.now c.loop-i.i 0) c.hint_outcome-outcome.result c.hint_outcome-outcome.ensures c.if-outcome-eq0.false c.if-outcome-eq1.false in
+pub loop-hint-preserved : goal.loop-hint-preserved
+loop-hint-preserved c =
+    let n = length c.loop-hint.marks / 2 in
+    let f = false_in c.loop-hint.marks c.args.turn in
+    let u = its-unit c.args.known.now c.loop-hint.marks c.args.turn (get_or c.args.hints.now c.loop-hint.hint-index 0) c.hint_outcome-outcome.result c.hint_outcome-outcome.ensures c.if-outcome-eq0.false c.if-outcome-eq1.false in
     let is : c.opposite-other.result ≡ slot_of (neg_ℤ u.z) = c.opposite-other.ensures.0 u.z (u.slot ∙ sym c.hint_outcome-outcome.ensures) in
-    let more = fun_ext (false-more c.loop-i.marks c.args.turn (neg_ℤ u.z) (rw is at (room (goal.at.loop-i-preserved c).After-opposite-other))) in
-    let on = propagates-unit n c.args.known.now f c.args.hints.now c.loop-i.i c.loop-i-test.true u.z u.is in (
-      omega arith,
-      simp length-set c.loop-i.invariant.1,
-      up_to-more c.loop-i.marks c.args.turn c.opposite-other.result (room (goal.at.loop-i-preserved c).After-opposite-other) c.loop-i.invariant.2,
-      rw (length-set, is, more) (sym on ∙ c.loop-i.invariant.3),
+    let more = fun_ext (false-more c.loop-hint.marks c.args.turn (neg_ℤ u.z) (rw is at (room (goal.at.loop-hint-preserved c).After-opposite-other))) in
+    let on = propagates-unit n c.args.known.now f c.args.hints.now c.loop-hint.hint-index c.loop-hint-test.true u.z u.is in (
+      simp length-set c.loop-hint.invariant.0,
+      up_to-more c.loop-hint.marks c.args.turn c.opposite-other.result (room (goal.at.loop-hint-preserved c).After-opposite-other) c.loop-hint.invariant.1,
+      rw (length-set, is, more) (sym on ∙ c.loop-hint.invariant.2),
     )
-
-pub shape_of-marks : goal.shape_of-marks
-shape_of-marks c = c.loop-i.invariant.1
 
 pub returns : goal.returns
 returns c =
-    record { answer = sym (propagates-none (length c.loop-i.marks / 2) c.args.known.now (false_in c.loop-i.marks c.args.turn) c.args.hints.now c.loop-i.i c.loop-i-test.false) ∙ c.loop-i.invariant.3; scratch = c.loop-i.invariant.2 }
+    record { answer = sym (propagates-none (length c.loop-hint.marks / 2) c.args.known.now (false_in c.loop-hint.marks c.args.turn) c.args.hints.now c.loop-hint.hint-index c.loop-hint-test.false) ∙ c.loop-hint.invariant.2; scratch = c.loop-hint.invariant.1 }
