@@ -2,13 +2,12 @@
 -- the functions of `call_replies` and by the exported functions.
 use Rattle.std.specs.Prelude.{ℕ, cond, ◌&&◌, List, [], eqb, leb}
 use Rattle.refusals.specs.Verdict.{Verdict}
+use Rattle.std.specs.Prelude.{ℕ, cond, ◌&&◌, List, [], eqb, leb, Option, Some, None}
 use Rattle.model.specs.Groups.{group_order}
 use Rattle.model.specs.declared.Group.{Group}
 use Rattle.model.specs.declared.Group.TheVariants.{Wires, Pair, Closing, Property}
 use Rattle.refusals.specs.Refusal.{reply_of}
 use Rattle.netlist.specs.declared.Netlist.{Netlist}
-use Rattle.group_order.specs.declared.Next.{Next}
-use Rattle.group_order.specs.declared.Next.TheVariants.{Then, End}
 use Rattle.call_replies.specs.declared.GroupReply.{GroupReply}
 use Rattle.call_replies.specs.declared.VersionReply.{VersionReply}
 use Rattle.call_replies.specs.declared.SheetReply.{SheetReply}
@@ -29,9 +28,9 @@ group_numbers (Pair j i p) = record { end = 0; kind = 1; j = j; i = i; port = p 
 group_numbers (Closing i p) = record { end = 0; kind = 2; j = 0; i = i; port = p }
 group_numbers Property = record { end = 0; kind = 3; j = 0; i = 0; port = 0 }
 
-unfoldable pub next_numbers : Next → GroupReply
-next_numbers (Then g) = group_numbers g
-next_numbers End = record { end = 1; kind = 0; j = 0; i = 0; port = 0 }
+unfoldable pub next_numbers : Option Group → GroupReply
+next_numbers (Some g) = group_numbers g
+next_numbers None = record { end = 1; kind = 0; j = 0; i = 0; port = 0 }
 
 -- the version of the header (RULES L12)
 unfoldable pub header_version : VersionReply

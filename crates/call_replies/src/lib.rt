@@ -9,6 +9,8 @@ ghost use Rattle.call_replies.specs.Replies.{group_of, group_numbers, next_numbe
 
 use call_unpacked::{HeadingReply, ProblemLine};
 use group_order::Next;
+use call_unpacked::{GroupAnswer, HeadingAnswer, HeadingReply};
+use dimacs::PrintAnswer;
 use model::Group;
 use netlist::Netlist;
 use refusals::{CountReply, Refused, Written};
@@ -76,12 +78,12 @@ fn numbers_of(group: Group) -> GroupReply
 }
 
 // What comes next in the order, in numbers.
-pub fn next_numbers(next: Next) -> GroupReply
+pub fn next_numbers(next: Option<Group>) -> GroupReply
     ensures { result ≡ next_numbers next }
 {
     match next {
-        Next::Then(group) => numbers_of(group),
-        Next::End => GroupReply {
+        Some(group) => numbers_of(group),
+        None => GroupReply {
             end: 1,
             kind: 0,
             j: 0,

@@ -9,7 +9,6 @@ ghost use Rattle.program_input.specs.Input.{InputTaken};
 ghost use Rattle.program_output.specs.Printed.{formula_header, frames_text};
 ghost use Rattle.frames.specs.Written.{Written};
 
-use group_order::Next;
 use netlist::UnpackedList;
 use program_input::Input;
 use std::io::Write;
@@ -104,7 +103,7 @@ fn print_clauses<W: Write, E: Write>(
     let net = taken.net;
     let depth = taken.depth;
     let mut next = group_order::first_group(depth);
-    while let Next::Then(group) = next {
+    while let Some(group) = next {
         let piece = program_output::print_groups(
             &mut text,
             &mut numbers,

@@ -5,11 +5,10 @@ use mathlib.Core.Path.{◌≡◌, refl, sym, ap, subst}
 use mathlib.Core.List.{List, [], ◌∷◌}
 use native.Mathlib.Nat.{mul-le-mul}
 use native.Mathlib.Omega.{arith}
+use Rattle.std.specs.Prelude.{Option, Some, None}
 use Rattle.model.specs.Groups.{group_order}
 use Rattle.model.specs.declared.Group.{Group}
 use Rattle.group_order.specs.Next.{first_group, remaining_from}
-use Rattle.group_order.specs.declared.Next.{Next}
-use Rattle.group_order.specs.declared.Next.TheVariants.{Then, End}
 use Rattle.group_order.proofs.Successor.{order-first}
 
 -- what remains begins with the group that is next
@@ -17,27 +16,27 @@ pub record Remaining (g : Group) (gs : List Group) : Type 0 where
   pub behind : List Group
   pub begins : gs ≡ g ∷ behind
 
-group_or : Group → Next → Group
-group_or g (Then h) = h
-group_or g End = g
+group_or : Group → Option Group → Group
+group_or g (Some h) = h
+group_or g None = g
 
-is_then : Next → Type 0
-is_then (Then g) = Unit {0}
-is_then End = ⊥
+is_then : Option Group → Type 0
+is_then (Some g) = Unit {0}
+is_then None = ⊥
 
-pub remaining-begins : (g : Group) (gs : List Group) → Then g ≡ first_group gs → Remaining g gs
+pub remaining-begins : (g : Group) (gs : List Group) → Some g ≡ first_group gs → Remaining g gs
 unfolding is_then group_or
 remaining-begins g [] h = absurd (subst is_then h tt)
 remaining-begins g (x ∷ gs) h =
     record { behind = gs; begins = ap (λ (y : Group). y ∷ gs) (sym (ap (group_or g) h)) }
 
-pub none-remains : (gs : List Group) → End ≡ first_group gs → gs ≡ []
+pub none-remains : (gs : List Group) → None ≡ first_group gs → gs ≡ []
 unfolding is_then
 none-remains [] h = refl
 none-remains (g ∷ gs) h = absurd (subst is_then (sym h) tt)
 
 -- how many groups there are at most, with two ports or one: for each of 255 frames 513, and four
-pub first-remaining : (ports k : ℕ) (next : Next) → ports ≤ 2 → k ≤ 255 → next ≡ first_group (group_order ports k) → remaining_from ports k next ≤ 130819
+pub first-remaining : (ports k : ℕ) (next : Option Group) → ports ≤ 2 → k ≤ 255 → next ≡ first_group (group_order ports k) → remaining_from ports k next ≤ 130819
 first-remaining ports k next p h e =
     let frames : k + 1 ≤ 256 = omega (arith, h) in
     let closings : ports * (k + 1) ≤ 2 * 256 = mul-le-mul p frames in

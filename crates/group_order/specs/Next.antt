@@ -1,14 +1,12 @@
 -- What stands first in a list of groups, and that the walk from group to group ends (RULES L14). Cited by `next_group` and by the text of a
 -- depth.
-use Rattle.std.specs.Prelude.{ℕ, ◌+◌, ◌-◌, ◌*◌, List, [], ◌∷◌}
+use Rattle.std.specs.Prelude.{ℕ, ◌+◌, ◌-◌, ◌*◌, List, [], ◌∷◌, Option, Some, None}
 use Rattle.model.specs.declared.Group.{Group}
 use Rattle.model.specs.declared.Group.TheVariants.{Wires, Pair, Closing, Property}
-use Rattle.group_order.specs.declared.Next.{Next}
-use Rattle.group_order.specs.declared.Next.TheVariants.{Then, End}
 
-abbrev pub first_group : List Group → Next
-first_group [] = End
-first_group (g ∷ gs) = Then g
+abbrev pub first_group : List Group → Option Group
+first_group [] = None
+first_group (g ∷ gs) = Some g
 
 -- at most so many groups follow at depth k, with so many ports: for each later frame those of frame k, those of its own frame, and the property
 abbrev pub remaining_after : ℕ → ℕ → Group → ℕ
@@ -18,6 +16,6 @@ remaining_after ports k (Closing i p) = (k - i) * (ports * (k + 1) + 1) + (ports
 remaining_after ports k Property = 0
 
 -- the same of what comes next, itself included
-abbrev pub remaining_from : ℕ → ℕ → Next → ℕ
-remaining_from ports k (Then g) = remaining_after ports k g + 1
-remaining_from ports k End = 0
+abbrev pub remaining_from : ℕ → ℕ → Option Group → ℕ
+remaining_from ports k (Some g) = remaining_after ports k g + 1
+remaining_from ports k None = 0

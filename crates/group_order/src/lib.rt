@@ -7,18 +7,11 @@ ghost use Rattle.group_order.specs.Next.{first_group, remaining_after, remaining
 
 use model::Group;
 
-// What comes next in the order of the whole.
-#[derive(Clone, Copy)]
-pub enum Next {
-    Then(Group),
-    End,
-}
-
 // The group with which the order of the whole begins, whatever the number of ports.
-pub fn first_group(depth: u32) -> Next
+pub fn first_group(depth: u32) -> Option<Group>
     ensures { (ports : ℕ) → result ≡ first_group (group_order ports depth) }
 {
-    Next::Then(Group::Wires(0))
+    Some(Group::Wires(0))
 }
 
 // Whether there is such a group at this depth, with so many ports.
@@ -35,35 +28,35 @@ pub fn is_in_depth(ports: u32, depth: u32, group: Group) -> bool
 
 // The group that follows `group` in the order of the whole at this depth, with so many ports; behind a group that is not in it there is
 // none.
-pub fn next_group(ports: u32, depth: u32, group: Group) -> Next
+pub fn next_group(ports: u32, depth: u32, group: Group) -> Option<Group>
     requires { 1 ≤ ports }
     ensures follows { (xs ys : List Group) → group_order ports depth ≡ xs ++ group ∷ ys → result ≡ first_group ys }
-    ensures absent { ((xs ys : List Group) → group_order ports depth ≡ xs ++ group ∷ ys → ⊥) → result ≡ Next.End }
+    ensures absent { ((xs ys : List Group) → group_order ports depth ≡ xs ++ group ∷ ys → ⊥) → result ≡ None }
     ensures ends { remaining_from ports depth result ≤ remaining_after ports depth group }
 {
     if !is_in_depth(ports, depth, group) {
-        return Next::End;
+        return None;
     }
     match group {
         Group::Wires(i) => if i == 0 {
-            Next::Then(Group::Closing(i, 1))
+            Some(Group::Closing(i, 1))
         } else {
-            Next::Then(Group::Pair(i - 1, i, 1))
+            Some(Group::Pair(i - 1, i, 1))
         },
         Group::Pair(j, i, port) => if port < ports {
-            Next::Then(Group::Pair(j, i, port + 1))
+            Some(Group::Pair(j, i, port + 1))
         } else if j == 0 {
-            Next::Then(Group::Closing(i, 1))
+            Some(Group::Closing(i, 1))
         } else {
-            Next::Then(Group::Pair(j - 1, i, 1))
+            Some(Group::Pair(j - 1, i, 1))
         },
         Group::Closing(i, port) => if port < ports {
-            Next::Then(Group::Closing(i, port + 1))
+            Some(Group::Closing(i, port + 1))
         } else if i < depth {
-            Next::Then(Group::Wires(i + 1))
+            Some(Group::Wires(i + 1))
         } else {
-            Next::Then(Group::Property)
+            Some(Group::Property)
         },
-        Group::Property => Next::End,
+        Group::Property => None,
     }
 }

@@ -42,7 +42,6 @@ use call_lists::{GateEntry, LatchEntry};
 use call_position::{LiteralReply, Position, PositionReply};
 use call_replies::{GroupReply, SheetReply, VersionReply};
 use call_unpacked::HeadingReply;
-use group_order::Next;
 use literals::Code;
 use model::Group;
 use netlist::Netlist;
@@ -98,14 +97,14 @@ pub extern "C" fn marrubigai_next_group(
     port: u32,
 ) -> GroupReply
     ensures follows { (xs ys : List Group) → order_for ports depth ≡ xs ++ group_of kind j i port ∷ ys → result ≡ next_numbers (first_group ys) }
-    ensures absent { ((xs ys : List Group) → order_for ports depth ≡ xs ++ group_of kind j i port ∷ ys → ⊥) → result ≡ next_numbers Next.End }
-    ensures begins { first_group (group_order ports depth) ≡ Next.Then (group_of 0 0 0 0) }
+    ensures absent { ((xs ys : List Group) → order_for ports depth ≡ xs ++ group_of kind j i port ∷ ys → ⊥) → result ≡ next_numbers None }
+    ensures begins { first_group (group_order ports depth) ≡ Some (group_of 0 0 0 0) }
 {
     if ports == 0 {
-        return call_replies::next_numbers(Next::End);
+        return call_replies::next_numbers(None);
     }
     if 2 < ports {
-        return call_replies::next_numbers(Next::End);
+        return call_replies::next_numbers(None);
     }
     call_replies::next_numbers(group_order::next_group(
         ports,

@@ -5,6 +5,7 @@ use mathlib.Core.Bool.{true}
 use mathlib.Core.List.{List, [], ◌∷◌, ◌++◌, append_assoc, append-nil}
 use lib.ListN.{length}
 use borrow.Rule.Slice.PartMut.{mid_of, put_mid}
+use Rattle.std.specs.Prelude.{Option, Some, None}
 use Rattle.model.specs.Netlist.{Netlist, ports}
 use Rattle.model.specs.Groups.{group_order, in_depth}
 use Rattle.model.specs.Numbers.{numbers_of, joined}
@@ -14,8 +15,6 @@ use Rattle.model.proofs.Gather.{All, all-at}
 use Rattle.model.proofs.Joined.{joined-append, order-in_depth}
 use Rattle.model.proofs.Wrote.{wrote_nothing, wrote_then}
 use Rattle.group_order.specs.Next.{first_group}
-use Rattle.group_order.specs.declared.Next.{Next}
-use Rattle.group_order.specs.declared.Next.TheVariants.{Then, End}
 use Rattle.group_order.proofs.Remaining.{Remaining, remaining-begins, none-remains}
 use Rattle.group_counts.proofs.Counted.{wrote-front}
 use Rattle.dimacs.specs.Text.{clause_text}
@@ -41,7 +40,7 @@ unfolding joined
 text_of-one c k g = ap clause_text (append-nil (numbers_of c k g))
 
 -- Of the groups `due`, the first ones (`printed`) have their text at the start of the buffer, and `next` is the first of those that remain
-pub record SoFar (c : Netlist) (k : ℕ) (old new : List ℕ) (bytes : ℕ) (next : Next) (due : List Group) : Type 0 where
+pub record SoFar (c : Netlist) (k : ℕ) (old new : List ℕ) (bytes : ℕ) (next : Option Group) (due : List Group) : Type 0 where
   pub printed : List Group
   pub remaining : List Group
   pub in_order_lem : due ≡ printed ++ remaining
@@ -49,14 +48,14 @@ pub record SoFar (c : Netlist) (k : ℕ) (old new : List ℕ) (bytes : ℕ) (nex
   next-remaining : next ≡ first_group remaining
 
 -- before the first group is printed
-pub nothing_yet : (c : Netlist) (k : ℕ) (old : List ℕ) (next : Next) (from : List Group) → next ≡ first_group from
+pub nothing_yet : (c : Netlist) (k : ℕ) (old : List ℕ) (next : Option Group) (from : List Group) → next ≡ first_group from
     → SoFar c k old old 0 next from
 unfolding clause_text joined
 nothing_yet c k old next from h =
     record { printed = []; remaining = from; in_order_lem = refl; wrote = wrote_nothing old; next-remaining = h }
 
 module _ {c : Netlist} {k : ℕ} {old mid : List ℕ} {bytes : ℕ} {due : Group} (before from : List Group)
-    (order : group_order (ports c) k ≡ before ++ from) (p : SoFar c k old mid bytes (Then due) from) where
+    (order : group_order (ports c) k ≡ before ++ from) (p : SoFar c k old mid bytes (Some due) from) where
   rest : Remaining due p.remaining
   rest = remaining-begins due p.remaining p.next-remaining
 
@@ -73,7 +72,7 @@ module _ {c : Netlist} {k : ℕ} {old mid : List ℕ} {bytes : ℕ} {due : Group
       }
 
   -- its text behind that of the others
-  pub one_more : (part : List ℕ) (n : ℕ) (next : Next)
+  pub one_more : (part : List ℕ) (n : ℕ) (next : Option Group)
       → Wrote (clause_text (numbers_of c k due)) (mid_of bytes (length mid - bytes) mid) part n
       → ((xs ys : List Group) → group_order (ports c) k ≡ xs ++ due ∷ ys → next ≡ first_group ys)
       → SoFar c k old (put_mid bytes (length mid - bytes) mid part) (bytes + n) next from
@@ -95,7 +94,7 @@ module _ {c : Netlist} {k : ℕ} {old mid : List ℕ} {bytes : ℕ} {due : Group
           ∙ ap (λ (t : List ℕ). text_of c k p.printed ++ t) (text_of-one c k due)
 
 -- where the groups so far are the piece: of the text that was due, it is the beginning
-pub piece-continues : {c : Netlist} {k : ℕ} {old new text : List ℕ} {bytes : ℕ} {next first : Next} (d : TextDue c k first text)
+pub piece-continues : {c : Netlist} {k : ℕ} {old new text : List ℕ} {bytes : ℕ} {next first : Option Group} (d : TextDue c k first text)
     → SoFar c k old new bytes next d.groups → Continues c k text new (record { bytes = bytes; next = next })
 piece-continues {c} {k} d p =
     record {
@@ -116,17 +115,17 @@ piece-continues {c} {k} d p =
     }
 
 -- at the start all groups are due
-pub all-due : (c : Netlist) (k : ℕ) (next : Next) → next ≡ first_group (group_order (ports c) k)
+pub all-due : (c : Netlist) (k : ℕ) (next : Option Group) → next ≡ first_group (group_order (ports c) k)
     → TextDue c k next (text_of c k (group_order (ports c) k))
 all-due c k next h = record { before = []; groups = group_order (ports c) k; order = refl; next-is = h; text-is = refl }
 
 -- the group that is next stands in the order of the whole
-pub due-order_has : {c : Netlist} {k : ℕ} {g : Group} {text : List ℕ} → TextDue c k (Then g) text → OrderHas c k g
+pub due-order_has : {c : Netlist} {k : ℕ} {g : Group} {text : List ℕ} → TextDue c k (Some g) text → OrderHas c k g
 due-order_has {c} {k} {g} d =
     let first = remaining-begins g d.groups d.next-is in
     record { before = d.before; behind = first.behind; order = d.order ∙ ap (λ (t : List Group). d.before ++ t) first.begins }
 
 -- at the end nothing is due
-pub nothing-due : {c : Netlist} {k : ℕ} {text : List ℕ} → TextDue c k End text → text ≡ []
+pub nothing-due : {c : Netlist} {k : ℕ} {text : List ℕ} → TextDue c k None text → text ≡ []
 unfolding clause_text joined
 nothing-due {c} {k} d = d.text-is ∙ ap (text_of c k) (none-remains d.groups d.next-is)

@@ -5,14 +5,13 @@ use mathlib.Core.Path.{◌≡◌, sym, ◌∙◌, ap}
 use mathlib.Core.List.{List, [], ◌++◌, append_assoc, append-nil}
 use lib.ListN.{length, take, drop, length-append}
 use lib.Seq.{drop_at, take-append_seam}
+use Rattle.std.specs.Prelude.{Option, Some, None}
 use Rattle.model.specs.Netlist.{Netlist, ports}
 use Rattle.model.specs.Numbers.{formula}
 use Rattle.model.specs.declared.Group.{Group}
 use Rattle.model.specs.Groups.{group_order}
 use Rattle.netlist.specs.NetOf.{net_of}
 use Rattle.group_order.specs.Next.{first_group}
-use Rattle.group_order.specs.declared.Next.{Next}
-use Rattle.group_order.specs.declared.Next.TheVariants.{Then, End}
 use Rattle.dimacs.specs.Text.{clause_text, refusal_text}
 use Rattle.program_input.specs.Input.{input_answer, InputTaken}
 use Rattle.program_input.proofs.Replies.{taken-text, refused-text}
@@ -43,7 +42,7 @@ pub first-stands : {whole : List ℕ} {sent : ℕ} (part behind : List ℕ) → 
 first-stands part behind e h = stands [] part behind e (sym h)
 
 -- so many bytes of the whole text are printed, and the text of the groups from `next` on is due
-pub record PrintedSo (whole : List ℕ) (c : Netlist) (k sent : ℕ) (next : Next) : Type 0 where
+pub record PrintedSo (whole : List ℕ) (c : Netlist) (k sent : ℕ) (next : Option Group) : Type 0 where
   pub done : List ℕ
   pub due : List ℕ
   pub whole_is : whole ≡ done ++ due
@@ -51,14 +50,14 @@ pub record PrintedSo (whole : List ℕ) (c : Netlist) (k sent : ℕ) (next : Nex
   pub text-due : TextDue c k next due
 
 -- behind the header
-pub header-printed : {whole : List ℕ} {c : Netlist} {k sent : ℕ} {next : Next} → whole ≡ formula_header c k ++ clause_text (formula c k)
+pub header-printed : {whole : List ℕ} {c : Netlist} {k sent : ℕ} {next : Option Group} → whole ≡ formula_header c k ++ clause_text (formula c k)
     → sent ≡ length (formula_header c k) → next ≡ first_group (group_order (ports c) k) → PrintedSo whole c k sent next
 unfolding formula
 header-printed {whole} {c} {k} e h n =
     record { done = formula_header c k; due = clause_text (formula c k); whole_is = e; done-sent = sym h; text-due = all-due c k _ n }
 
 module _ {whole : List ℕ} {c : Netlist} {k sent : ℕ} {g : Group} {buffer : List ℕ} {piece : Piece}
-    (p : PrintedSo whole c k sent (Then g)) (q : Continues c k p.due buffer piece) where
+    (p : PrintedSo whole c k sent (Some g)) (q : Continues c k p.due buffer piece) where
   part : List ℕ
   part = take piece.bytes buffer
 
@@ -84,6 +83,6 @@ module _ {whole : List ℕ} {c : Netlist} {k sent : ℕ} {g : Group} {buffer : L
       }
 
 -- where no group is next, all is printed
-pub all-printed : {whole : List ℕ} {c : Netlist} {k sent : ℕ} → PrintedSo whole c k sent End → sent ≡ length whole
+pub all-printed : {whole : List ℕ} {c : Netlist} {k sent : ℕ} → PrintedSo whole c k sent None → sent ≡ length whole
 all-printed {whole} p =
     sym p.done-sent ∙ ap length (sym (append-nil p.done) ∙ ap (λ (t : List ℕ). p.done ++ t) (sym (nothing-due p.text-due)) ∙ sym p.whole_is)

@@ -10,12 +10,10 @@ ghost use Rattle.netlist.specs.NetOf.{net_of, alone};
 ghost use Rattle.text_writer.specs.Table.{TableOrNone};
 ghost use Rattle.dimacs.specs.Text.{header_text, clause_text};
 ghost use Rattle.group_order.specs.Next.{remaining_after, remaining_from};
-ghost use Rattle.group_order.specs.declared.Next.TheVariants.{Then};
 ghost use Rattle.program_output.specs.Printed.{formula_header};
 ghost use Rattle.program_output.specs.Pieces.{TextDue, Continues};
 ghost use Rattle.program_output.specs.Order.{OrderHas};
 
-use group_order::Next;
 use model::Group;
 use netlist::{Netlist, UnpackedList};
 
@@ -23,7 +21,7 @@ use netlist::{Netlist, UnpackedList};
 #[derive(Clone, Copy)]
 pub struct Piece {
     pub bytes: usize,
-    pub next: Next,
+    pub next: Option<Group>,
 }
 
 // A header takes at most 28 bytes.
@@ -85,7 +83,7 @@ pub fn print_groups(
 ) -> Piece
     requires { Accepted (net_of net latches.now gates.now) × (depth ≤ 255) × OrderHas (net_of net latches.now gates.now) depth group
         × TableOrNone table.now × (5992 ≤ length numbers.old) × (71904 ≤ length text.old) }
-    ensures text { (due : List ℕ) → TextDue (net_of net latches.now gates.now) depth (Then group) due
+    ensures text { (due : List ℕ) → TextDue (net_of net latches.now gates.now) depth (Some group) due
         → Continues (net_of net latches.now gates.now) depth due text.new result }
     ensures ends { remaining_from (ports (alone net)) depth result.next ≤ remaining_after (ports (alone net)) depth group }
     ensures within { result.bytes ≤ length text.old }
@@ -94,9 +92,9 @@ pub fn print_groups(
     let ports = netlist::port_count(net);
     let last = text.len() - 71904;
     let mut bytes = 0;
-    let mut next = Next::Then(group);
+    let mut next = Some(group);
     while bytes <= last {
-        let Next::Then(due) = next else {
+        let Some(due) = next else {
             break;
         };
         bytes = bytes

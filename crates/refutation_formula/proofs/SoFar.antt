@@ -6,6 +6,7 @@ use mathlib.Core.List.{List, [], ◌∷◌, ◌++◌, append_assoc, append-nil}
 use lib.IntN.{ℤ}
 use lib.ListN.{length}
 use borrow.Rule.Slice.PartMut.{mid_of, put_mid}
+use Rattle.std.specs.Prelude.{Option, Some, None}
 use Rattle.model.specs.Netlist.{Netlist, ports}
 use Rattle.model.specs.Groups.{group_order, in_depth}
 use Rattle.model.specs.Numbers.{numbers_of, joined, formula}
@@ -13,14 +14,12 @@ use Rattle.model.specs.declared.Group.{Group}
 use Rattle.model.proofs.Gather.{All, all-at}
 use Rattle.model.proofs.Joined.{joined-append, order-in_depth}
 use Rattle.group_order.specs.Next.{first_group}
-use Rattle.group_order.specs.declared.Next.{Next}
-use Rattle.group_order.specs.declared.Next.TheVariants.{Then, End}
 use Rattle.group_order.proofs.Remaining.{Remaining, remaining-begins, none-remains}
 use Rattle.refutation_formula.specs.WhereRoom.{PutWhereRoom}
 use Rattle.refutation_formula.proofs.WhereRoom.{put-nothing, put_then}
 
 -- of the groups in their order, the first ones are put, and `next` is the first of those that remain
-pub record SoFar (c : Netlist) (k : ℕ) (old new : List ℤ) (at : ℕ) (next : Next) : Type 0 where
+pub record SoFar (c : Netlist) (k : ℕ) (old new : List ℤ) (at : ℕ) (next : Option Group) : Type 0 where
   pub done : List Group
   pub remaining : List Group
   pub order : group_order (ports c) k ≡ done ++ remaining
@@ -28,11 +27,11 @@ pub record SoFar (c : Netlist) (k : ℕ) (old new : List ℤ) (at : ℕ) (next :
   pub put : PutWhereRoom (joined (numbers_of c k) done) old new at
 
 -- before the first group
-pub nothing_yet : (c : Netlist) (k : ℕ) (old : List ℤ) (next : Next) → next ≡ first_group (group_order (ports c) k) → SoFar c k old old 0 next
+pub nothing_yet : (c : Netlist) (k : ℕ) (old : List ℤ) (next : Option Group) → next ≡ first_group (group_order (ports c) k) → SoFar c k old old 0 next
 unfolding joined
 nothing_yet c k old next h = record { done = []; remaining = group_order (ports c) k; order = refl; next-is = h; put = put-nothing old }
 
-module _ {c : Netlist} {k : ℕ} {old mid : List ℤ} {at : ℕ} {g : Group} (p : SoFar c k old mid at (Then g)) where
+module _ {c : Netlist} {k : ℕ} {old mid : List ℤ} {at : ℕ} {g : Group} (p : SoFar c k old mid at (Some g)) where
   rest : Remaining g p.remaining
   rest = remaining-begins g p.remaining p.next-is
 
@@ -44,7 +43,7 @@ module _ {c : Netlist} {k : ℕ} {old mid : List ℤ} {at : ℕ} {g : Group} (p 
   next-in_depth = all-at p.done g rest.behind (subst (All (λ x. in_depth (ports c) k x ≡ true)) whole (order-in_depth (ports c) k))
 
   -- it is put behind the others
-  pub one_more : (part : List ℤ) (from n : ℕ) (next : Next) → from ≤ length mid → (at ≤ length mid → from ≡ at)
+  pub one_more : (part : List ℤ) (from n : ℕ) (next : Option Group) → from ≤ length mid → (at ≤ length mid → from ≡ at)
       → PutWhereRoom (numbers_of c k g) (mid_of from (length mid - from) mid) part n
       → ((xs ys : List Group) → group_order (ports c) k ≡ xs ++ g ∷ ys → next ≡ first_group ys)
       → SoFar c k old (put_mid from (length mid - from) mid part) (at + n) next
@@ -66,7 +65,7 @@ module _ {c : Netlist} {k : ℕ} {old mid : List ℤ} {at : ℕ} {g : Group} (p 
           ∙ ap (λ (t : List ℤ). joined (numbers_of c k) p.done ++ t) (append-nil (numbers_of c k g))
 
 -- where no group is next, all of the formula is put
-pub all-put : {c : Netlist} {k : ℕ} {old new : List ℤ} {at : ℕ} → SoFar c k old new at End → PutWhereRoom (formula c k) old new at
+pub all-put : {c : Netlist} {k : ℕ} {old new : List ℤ} {at : ℕ} → SoFar c k old new at None → PutWhereRoom (formula c k) old new at
 unfolding formula
 all-put {c} {k} {old} {new} {at} p =
     subst (λ (t : List ℤ). PutWhereRoom t old new at) (ap (joined (numbers_of c k)) (sym all)) p.put

@@ -10,7 +10,6 @@ ghost use Rattle.model.specs.Numbers.{numbers_of, formula};
 ghost use Rattle.netlist.specs.NetOf.{net_of};
 ghost use Rattle.refutation_formula.specs.WhereRoom.{PutWhereRoom};
 
-use group_order::Next;
 use model::Group;
 use netlist::{Netlist, UnpackedList};
 
@@ -63,7 +62,7 @@ pub fn put_formula(
     let ports = netlist::port_count(net);
     let mut at = 0;
     let mut next = group_order::first_group(depth);
-    while let Next::Then(group) = next {
+    while let Some(group) = next {
         let from = smaller(at, out.len());
         at = at
             + put_where_room(

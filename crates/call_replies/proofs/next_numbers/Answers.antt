@@ -3,10 +3,10 @@
 use Rattle.call_replies.specs.Replies.{next_numbers}
 use Rattle.call_replies.proofs.next_numbers.Goals as goal
 
-pub returns-in-Then : goal.returns-in-Then
+pub returns-in-Some : goal.returns-in-Some
 unfolding next_numbers
-returns-in-Then c = rw (c.in-Then.is, c.numbers_of.ensures)
+returns-in-Some c = rw (c.in-Some.is, c.numbers_of.ensures)
 
-pub returns-in-End : goal.returns-in-End
+pub returns-in-None : goal.returns-in-None
 unfolding next_numbers
-returns-in-End c = rw c.in-End.is
+returns-in-None c = rw c.in-None.is

@@ -15,7 +15,7 @@ number-requires-then-is_number-2 c = search (rules, tested)
 
 pub returns-then-is_number : goal.returns-then-is_number
 returns-then-is_number c =
-    rw (c.number.ensures.literal, c.number-then-is_number.ensures.literal, c.number-then-is_number-2.ensures.literal) at c.put_and_numbers.ensures
+    rw (c.number.ensures.literal, c.number-then-is_number.ensures.literal, c.number-then-is_number-2.ensures.literal) at c.put_and_of.ensures
 
 pub returns : goal.returns
-returns c = c.put_and_terms.ensures
+returns c = c.put_and_of-2.ensures

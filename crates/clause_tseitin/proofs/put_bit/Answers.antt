@@ -18,7 +18,7 @@ number-requires-then-is_number-3 c = (search rules, search fourth-of-four)
 
 pub returns-then-is_number : goal.returns-then-is_number
 returns-then-is_number c =
-    rw (c.number.ensures.literal, c.number-then-is_number.ensures.literal, c.number-then-is_number-2.ensures.literal, c.number-then-is_number-3.ensures.literal) at c.put_bit_numbers.ensures
+    rw (c.number.ensures.literal, c.number-then-is_number.ensures.literal, c.number-then-is_number-2.ensures.literal, c.number-then-is_number-3.ensures.literal) at c.put_bit_of.ensures
 
 pub returns : goal.returns
-returns c = c.put_bit_terms.ensures
+returns c = c.put_bit_of-2.ensures

@@ -8,11 +8,11 @@ use borrow.Author.Rules.{rules}
 use mathlib.Core.List.{[]}
 use lib.ListN.{length, take}
 use lib.Seq.{length-take-le}
+use Rattle.std.specs.Prelude.{Some}
 use Rattle.model.specs.Netlist.{ports}
 use Rattle.netlist.specs.NetOf.{net_of, alone}
 use Rattle.netlist.proofs.NetOf.{sizes-lists}
 use Rattle.text_writer.proofs.Table.{filled-table}
-use Rattle.group_order.specs.declared.Next.TheVariants.{Then}
 use Rattle.group_order.proofs.Remaining.{first-remaining}
 use Rattle.program_output.specs.Printed.{frames_text}
 use Rattle.program_output.specs.Pieces.{Continues}
@@ -23,7 +23,7 @@ use Rattle.std.proofs.KnownBytes.{Appends-nil}
 use Rattle.frames.proofs.Written.{written-as, written-then, nothing-between, between-more, between-all}
 use Rattle.frames.proofs.print_clauses.Given.{Over}
 use Rattle.frames.proofs.print_clauses.Goals as goal
-use Rattle.frames.proofs.print_clauses.Goals.{After-print_groups-piece, In-Then}
+use Rattle.frames.proofs.print_clauses.Goals.{After-print_groups-piece, In-Some}
 
 pub loop-next-init : goal.loop-next-init
 loop-next-init g c =
@@ -40,14 +40,14 @@ loop-next-init g c =
     )
 
 -- the group that comes next is due
-so_far : (g : Over) (c : In-Then g) →
-    PrintedSo (frames_text c.args.input.now) (net_of c.args.taken.net c.args.latches.now c.args.gates.now) c.args.taken.depth c.loop-next.sent (Then c.in-Then.group)
-so_far g c = rw c.in-Then.is at c.loop-next.invariant.3
+so_far : (g : Over) (c : In-Some g) →
+    PrintedSo (frames_text c.args.input.now) (net_of c.args.taken.net c.args.latches.now c.args.gates.now) c.args.taken.depth c.loop-next.sent (Some c.in-Some.group)
+so_far g c = rw c.in-Some.is at c.loop-next.invariant.3
 
 pub print_groups-piece-requires : goal.print_groups-piece-requires
 print_groups-piece-requires g c =
     let taken = c.requires.0 in
-    (rw taken.net-is taken.accepted, taken.depth-most, due-order_has (so_far g (goal.at.print_groups-piece-requires g c).In-Then).text-due, λ long. c.loop-next.invariant.2, omega (arith, c.loop-next.invariant.1), omega (arith, c.loop-next.invariant.0))
+    (rw taken.net-is taken.accepted, taken.depth-most, due-order_has (so_far g (goal.at.print_groups-piece-requires g c).In-Some).text-due, λ long. c.loop-next.invariant.2, omega (arith, c.loop-next.invariant.1), omega (arith, c.loop-next.invariant.0))
 
 -- the text is within its buffer
 module _ (g : Over) (c : After-print_groups-piece g) where
@@ -61,8 +61,8 @@ module _ (g : Over) (c : After-print_groups-piece g) where
       omega (arith, counted, c.print_groups-piece.ensures.within, c.loop-next.invariant.0)
 
   -- and the piece is the text that is next
-  due : PrintedSo (frames_text c.args.input.now) (net_of c.args.taken.net c.args.latches.now c.args.gates.now) c.args.taken.depth c.loop-next.sent (Then c.in-Then.group)
-  due = rw c.in-Then.is at c.loop-next.invariant.3
+  due : PrintedSo (frames_text c.args.input.now) (net_of c.args.taken.net c.args.latches.now c.args.gates.now) c.args.taken.depth c.loop-next.sent (Some c.in-Some.group)
+  due = rw c.in-Some.is at c.loop-next.invariant.3
 
   continues : Continues (net_of c.args.taken.net c.args.latches.now c.args.gates.now) c.args.taken.depth due.due c.print_groups-piece.new.text c.print_groups-piece.result
   continues = c.print_groups-piece.ensures.text _ due.text-due
@@ -81,7 +81,7 @@ write_next-requires g c =
     )
 
 pub loop-next-smaller : goal.loop-next-smaller
-loop-next-smaller g c = rw c.in-Then.is (omega (arith, c.print_groups-piece.ensures.ends))
+loop-next-smaller g c = rw c.in-Some.is (omega (arith, c.print_groups-piece.ensures.ends))
 
 pub loop-next-preserved : goal.loop-next-preserved
 loop-next-preserved g c =
@@ -93,7 +93,7 @@ loop-next-preserved g c =
       search rules,
       c.loop-next.invariant.2,
       rw sent (piece-printed (due g there) (continues g there)),
-      omega (arith, sent, rw c.in-Then.is at c.loop-next.invariant.4, fewer, most g there),
+      omega (arith, sent, rw c.in-Some.is at c.loop-next.invariant.4, fewer, most g there),
       omega (arith, sent, c.loop-next.invariant.5),
       rw sent (written-then _ _ _ _ _ _ _ _ _ c.loop-next.invariant.6 (written-as _ _ _ _ _ _ c.write_next.ensures.written stands) (between-more _ _ _ _ c.loop-next.invariant.5)),
     )

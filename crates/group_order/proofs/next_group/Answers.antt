@@ -3,8 +3,8 @@
 
 use mathlib.Core.Path.{◌≡◌, refl, sym, ◌∙◌}
 use borrow.Author.Tests.{eq-eqb, ne_eqb, lt-ltb, le-ltb}
+use Rattle.std.specs.Prelude.{Option}
 use Rattle.model.specs.declared.Group.{Group}
-use Rattle.group_order.specs.declared.Next.{Next}
 use Rattle.group_order.proofs.Successor.{successor, Follows, follows, none-follows}
 use Rattle.group_order.proofs.next_group.Goals as goal
 use Rattle.group_order.proofs.next_group.Goals.{Else-not-is_in_depth}
@@ -13,7 +13,7 @@ pub returns-then-not-is_in_depth : goal.returns-then-not-is_in_depth
 returns-then-not-is_in_depth c = none-follows _ _ _ (sym c.is_in_depth.ensures ∙ c.if-not-is_in_depth.true)
 
 -- the group is one of the depth: its successor follows
-answer : (c : Else-not-is_in_depth) (g : Group) (r : Next) →
+answer : (c : Else-not-is_in_depth) (g : Group) (r : Option Group) →
     c.args.group ≡ g → successor c.args.ports c.args.depth g ≡ r → Follows c.args.ports c.args.depth c.args.group r
 answer c g r e h =
     follows _ _ c.requires _ g r (sym c.is_in_depth.ensures ∙ c.if-not-is_in_depth.false) e h

@@ -6,17 +6,17 @@ use mathlib.Core.Path.{◌≡◌}
 use mathlib.Core.List.{List, ◌++◌}
 use mathlib.Core.Logic.{◌⊎◌}
 use lib.ListN.{length}
+use Rattle.std.specs.Prelude.{Option}
 use Rattle.model.specs.Netlist.{ports}
 use Rattle.model.specs.Groups.{group_order}
 use Rattle.model.specs.declared.Group.{Group}
 use Rattle.netlist.specs.NetOf.{net_of}
 use Rattle.group_order.specs.Next.{first_group, remaining_from}
-use Rattle.group_order.specs.declared.Next.{Next}
 use Rattle.program_output.proofs.Pieces.{SoFar}
 use Rattle.program_output.proofs.print_groups.Given as goal
 
 -- nothing is printed yet, or fewer groups remain
-abbrev pub Begun : ℕ → ℕ → ℕ → Next → Next → Type 0
+abbrev pub Begun : ℕ → ℕ → ℕ → Option Group → Option Group → Type 0
 Begun ports k bytes next next₀ = ((bytes ≡ 0) × (next ≡ next₀)) ⊎ (remaining_from ports k next < remaining_from ports k next₀)
 
 abbrev pub invariant-loop-bytes : goal.invariant-loop-bytes
