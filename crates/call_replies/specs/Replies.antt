@@ -1,8 +1,7 @@
 -- What the numbers of an exported function stand for: a group for four numbers, and the fields of a reply (RULES L5 and L12 to L14). Cited by
 -- the functions of `call_replies` and by the exported functions.
-use Rattle.std.specs.Prelude.{ℕ, cond, ◌&&◌, List, [], eqb, leb}
-use Rattle.refusals.specs.Verdict.{Verdict}
 use Rattle.std.specs.Prelude.{ℕ, cond, ◌&&◌, List, [], eqb, leb, Option, Some, None}
+use Rattle.refusals.specs.Verdict.{Verdict}
 use Rattle.model.specs.Groups.{group_order}
 use Rattle.model.specs.declared.Group.{Group}
 use Rattle.model.specs.declared.Group.TheVariants.{Wires, Pair, Closing, Property}

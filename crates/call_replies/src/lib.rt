@@ -8,9 +8,6 @@ ghost use Rattle.sheet_parse.specs.LineAnswers.{without_fields, line_sent};
 ghost use Rattle.call_replies.specs.Replies.{group_of, group_numbers, next_numbers, sheet_numbers, header_version};
 
 use call_unpacked::{HeadingReply, ProblemLine};
-use group_order::Next;
-use call_unpacked::{GroupAnswer, HeadingAnswer, HeadingReply};
-use dimacs::PrintAnswer;
 use model::Group;
 use netlist::Netlist;
 use refusals::{CountReply, Refused, Written};
