@@ -2,7 +2,7 @@
 // the lent memory and the lent trace (RULES Y1, Y5 to Y8, Y11 to Y14, T14, T15 and T49).
 #![tactic(auto)]
 
-ghost use Rattle.std.specs.Prelude.{◌≡◌, ◌≤◌, length};
+ghost use Rattle.std.specs.Prelude.{◌≡◌, ◌≤◌, length, Ok};
 ghost use Rattle.model.specs.Acceptance.{SizesFit};
 ghost use Rattle.netlist.specs.NetOf.{net_of, alone};
 ghost use Rattle.replay_frame.specs.Replay.{said_in, OneRunTheorem, RoomTheorem, trace_length};
@@ -37,23 +37,32 @@ pub struct ReplayReply {
     pub first: u32,
 }
 
-// An answer in numbers.
-pub fn reply_of(answer: ReplayAnswer) -> ReplayReply
-    ensures { result ≡ replay_reply answer }
+// What a replay finds, in numbers.
+fn found_reply(found: Replayed) -> ReplayReply
+    ensures { result ≡ replay_reply (Ok found) }
 {
-    match answer {
-        Ok(Replayed::Broken(first)) => ReplayReply {
+    match found {
+        Replayed::Broken(first) => ReplayReply {
             number: 0,
             place: 0,
             claimed: 0,
             first,
         },
-        Ok(Replayed::ClaimedUnsatisfiable) => ReplayReply {
+        Replayed::ClaimedUnsatisfiable => ReplayReply {
             number: 0,
             place: 0,
             claimed: 1,
             first: 0,
         },
+    }
+}
+
+// An answer in numbers.
+pub fn reply_of(answer: ReplayAnswer) -> ReplayReply
+    ensures { result ≡ replay_reply answer }
+{
+    match answer {
+        Ok(found) => found_reply(found),
         Err(Refused(refusal, place)) => ReplayReply {
             number: refusals::number(refusal),
             place,

@@ -3,13 +3,8 @@
 use Rattle.replay_call.specs.ReplayCall.{replay_reply}
 use Rattle.replay_call.proofs.reply_of.Goals as goal
 
-pub returns-in-Broken : goal.returns-in-Broken
-unfolding replay_reply
-returns-in-Broken c = rw c.in-Broken.is
-
-pub returns-in-ClaimedUnsatisfiable : goal.returns-in-ClaimedUnsatisfiable
-unfolding replay_reply
-returns-in-ClaimedUnsatisfiable c = rw c.in-ClaimedUnsatisfiable.is
+pub returns-in-Ok : goal.returns-in-Ok
+returns-in-Ok c = rw c.in-Ok.is c.found_reply.ensures
 
 pub returns-in-Err : goal.returns-in-Err
 unfolding replay_reply
