@@ -22,15 +22,13 @@ pub type FirstNumbers = [u32; 661];
 fn wire_of(table: &FirstNumbers, variable: u32) -> Wire
     ensures { (result.0 ≡ wire_found table.now variable) × (result.0 ≤ 601) }
 {
-    let mut w: u32 = 0;
-    while w < 601 {
+    for w in 0..601 {
         let at = w as usize;
         if table[at] / 2 == variable {
             return Wire(w);
         }
-        w += 1;
     }
-    Wire(w)
+    Wire(601)
 }
 
 // A literal of the text as a code: its variable's wire by a table, inverted or not as the literal.
@@ -90,14 +88,12 @@ pub fn put_firsts(
     ensures table { TableFilled 661 (put_from first count (firsts_behind text.now line) (entry_of table.old)) table.new }
 {
     let mut next = at;
-    let mut x: u32 = 0;
-    while x < count {
+    for x in 0..count {
         let read = aiger_lines::next_line(text, line + x as u64, next);
         let numbers = read.numbers;
         let w = first + x as usize;
         table[w] = numbers.values[0];
         next = read.next;
-        x += 1;
     }
     next
 }
@@ -116,15 +112,13 @@ pub fn put_codes(
     ensures { ListFilled count (codes_behind text.now line table.now 1) (codes_behind text.now line table.now 2) list.new }
 {
     let mut next = at;
-    let mut x: u32 = 0;
-    while x < count {
+    for x in 0..count {
         let read = aiger_lines::next_line(text, line + x as u64, next);
         let numbers = read.numbers;
         let left = code_of(table, numbers.values[1]);
         let right = code_of(table, numbers.values[2]);
         netlist::put_numbers(list, x as usize, left.0, right.0);
         next = read.next;
-        x += 1;
     }
 }
 
@@ -134,11 +128,9 @@ fn put_address(net: Netlist, table: &FirstNumbers) -> Netlist
     ensures { AddressPut net table.now result }
 {
     let mut next = net;
-    let mut t: u32 = 0;
-    while t < net.m {
+    for t in 0..net.m {
         let at = t as usize;
         next.address[at] = code_of(table, table[601 + at]);
-        t += 1;
     }
     next
 }
@@ -150,11 +142,9 @@ fn put_data(net: Netlist, table: &FirstNumbers) -> Netlist
 {
     let first = 601 + net.m as usize;
     let mut next = net;
-    let mut t: u32 = 0;
-    while t < net.n {
+    for t in 0..net.n {
         let at = t as usize;
         next.write_data[at] = code_of(table, table[first + at]);
-        t += 1;
     }
     next
 }
@@ -167,11 +157,9 @@ fn put_second_address(net: Netlist, table: &FirstNumbers) -> Netlist
     let first = 601 + net.m as usize + net.n as usize;
     let count = net.second_port * net.m;
     let mut next = net;
-    let mut t: u32 = 0;
-    while t < count {
+    for t in 0..count {
         let at = t as usize;
         next.address2[at] = code_of(table, table[first + at]);
-        t += 1;
     }
     next
 }

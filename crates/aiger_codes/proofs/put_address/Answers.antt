@@ -10,7 +10,7 @@ use Rattle.aiger_codes.proofs.put_address.Goals as goal
 
 pub loop-t-init : goal.loop-t-init
 loop-t-init c =
-    (omega arith, (refl, coded_none 12 (output_code c.args.table.now) c.args.net.address c.requires.1))
+    (refl, coded_none 12 (output_code c.args.table.now) c.args.net.address c.requires.1)
 
 pub overflow_cast-at : goal.overflow_cast-at
 overflow_cast-at c = omega arith
@@ -24,32 +24,20 @@ offset_bounds-table-at c = omega arith
 pub bounds-table-at : goal.bounds-table-at
 bounds-table-at c = omega arith
 
-pub code_of-requires : goal.code_of-requires
-code_of-requires c = tt
-
 pub offset_bounds-next-at : goal.offset_bounds-next-at
 offset_bounds-next-at c = omega arith
 
 pub bounds-next-at : goal.bounds-next-at
-bounds-next-at c = omega (arith, c.loop-t.invariant.1.1.full)
-
-pub overflow_add-t : goal.overflow_add-t
-overflow_add-t c = omega arith
-
-pub loop-t-smaller : goal.loop-t-smaller
-loop-t-smaller c = omega arith
+bounds-next-at c = omega (arith, c.loop-t.invariant.1.full)
 
 pub loop-t-preserved : goal.loop-t-preserved
 unfolding output_code
 loop-t-preserved c = (
-  omega arith,
-  (
-    ap (λ (r : Netlist). with_address r (set c.loop-t.next.address c.loop-t.t c.code_of.result)) c.loop-t.invariant.1.0,
-    coded-next 12 (output_code c.args.table.now) c.loop-t.next.address c.loop-t.t c.code_of.result.0 (omega arith) c.code_of.ensures c.loop-t.invariant.1.1,
-  ),
+    ap (λ (r : Netlist). with_address r (set c.loop-t.next.address c.loop-t.t c.code_of.result)) c.loop-t.invariant.0,
+    coded-next 12 (output_code c.args.table.now) c.loop-t.next.address c.loop-t.t c.code_of.result.0 (omega arith) c.code_of.ensures c.loop-t.invariant.1,
 )
 
 pub returns : goal.returns
 returns c =
     let all : c.loop-t.t ≡ c.args.net.m = omega arith in
-    record { others = c.loop-t.invariant.1.0; codes = rw (← all) c.loop-t.invariant.1.1 }
+    record { others = c.loop-t.invariant.0; codes = rw (← all) c.loop-t.invariant.1 }

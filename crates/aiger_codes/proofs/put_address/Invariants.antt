@@ -1,13 +1,9 @@
 -- `aiger_codes::put_address` meets its contract. The loop's invariant: t codes are in the record, and nothing else has changed.
 
-use Prim.Native.Nat.{◌-◌, ◌≤◌}
 use mathlib.Core.Path.{◌≡◌}
 use Rattle.aiger_codes.specs.Outputs.{output_code, Coded, with_address}
 use Rattle.aiger_codes.proofs.put_address.Given as goal
 
 abbrev pub invariant-loop-t : goal.invariant-loop-t
 invariant-loop-t l =
-    (l.t ≤ l.net.m) × ((l.next ≡ with_address l.net l.next.address) × Coded 12 l.t (output_code l.table) l.next.address)
-
-abbrev pub decreases-loop-t : goal.decreases-loop-t
-decreases-loop-t l = l.net.m - l.t
+    (l.next ≡ with_address l.fn.net l.next.address) × Coded 12 l.t (output_code l.table) l.next.address

@@ -11,7 +11,7 @@ use Rattle.aiger_codes.proofs.put_data.Goals as goal
 
 pub loop-t-init : goal.loop-t-init
 loop-t-init c =
-    (omega arith, (refl, coded_none 32 (λ x. output_code c.args.table.now (c.args.net.m + x)) c.args.net.write_data c.requires.2))
+    (refl, coded_none 32 (λ x. output_code c.args.table.now (c.args.net.m + x)) c.args.net.write_data c.requires.2)
 
 pub overflow_cast-first : goal.overflow_cast-first
 overflow_cast-first c = omega arith
@@ -31,31 +31,19 @@ offset_bounds-table-first c = omega arith
 pub bounds-table-first : goal.bounds-table-first
 bounds-table-first c = omega arith
 
-pub code_of-requires : goal.code_of-requires
-code_of-requires c = tt
-
 pub offset_bounds-next-at : goal.offset_bounds-next-at
 offset_bounds-next-at c = omega arith
 
 pub bounds-next-at : goal.bounds-next-at
-bounds-next-at c = omega (arith, c.loop-t.invariant.1.1.full)
-
-pub overflow_add-t : goal.overflow_add-t
-overflow_add-t c = omega arith
-
-pub loop-t-smaller : goal.loop-t-smaller
-loop-t-smaller c = omega arith
+bounds-next-at c = omega (arith, c.loop-t.invariant.1.full)
 
 pub loop-t-preserved : goal.loop-t-preserved
 loop-t-preserved c = (
-  omega arith,
-  (
-    ap (λ (r : Netlist). with_data r (set c.loop-t.next.write_data c.loop-t.t c.code_of.result)) c.loop-t.invariant.1.0,
-    coded-next 32 (λ x. output_code c.args.table.now (c.args.net.m + x)) c.loop-t.next.write_data c.loop-t.t c.code_of.result.0 (omega arith) (c.code_of.ensures ∙ output-at c.args.table.now (c.args.net.m + c.loop-t.t) _ (omega arith)) c.loop-t.invariant.1.1,
-  ),
+    ap (λ (r : Netlist). with_data r (set c.loop-t.next.write_data c.loop-t.t c.code_of.result)) c.loop-t.invariant.0,
+    coded-next 32 (λ x. output_code c.args.table.now (c.args.net.m + x)) c.loop-t.next.write_data c.loop-t.t c.code_of.result.0 (omega arith) (c.code_of.ensures ∙ output-at c.args.table.now (c.args.net.m + c.loop-t.t) _ (omega arith)) c.loop-t.invariant.1,
 )
 
 pub returns : goal.returns
 returns c =
     let all : c.loop-t.t ≡ c.args.net.n = omega arith in
-    record { others = c.loop-t.invariant.1.0; codes = rw (← all) c.loop-t.invariant.1.1 }
+    record { others = c.loop-t.invariant.0; codes = rw (← all) c.loop-t.invariant.1 }

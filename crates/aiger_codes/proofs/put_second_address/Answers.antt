@@ -20,7 +20,7 @@ few c =
 
 pub loop-t-init : goal.loop-t-init
 loop-t-init c =
-    ((omega arith, few (goal.at.loop-t-init c).Start), (refl, coded_none 12 (λ x. output_code c.args.table.now (c.args.net.m + c.args.net.n + x)) c.args.net.address2 c.requires.3))
+    (few (goal.at.loop-t-init c).Start, refl, coded_none 12 (λ x. output_code c.args.table.now (c.args.net.m + c.args.net.n + x)) c.args.net.address2 c.requires.3)
 
 pub overflow_cast-first : goal.overflow_cast-first
 overflow_cast-first c = omega arith
@@ -49,31 +49,20 @@ offset_bounds-table-first c = omega arith
 pub bounds-table-first : goal.bounds-table-first
 bounds-table-first c = omega arith
 
-pub code_of-requires : goal.code_of-requires
-code_of-requires c = tt
-
 pub offset_bounds-next-at : goal.offset_bounds-next-at
 offset_bounds-next-at c = omega arith
 
 pub bounds-next-at : goal.bounds-next-at
-bounds-next-at c = omega (arith, c.loop-t.invariant.1.1.full)
-
-pub overflow_add-t : goal.overflow_add-t
-overflow_add-t c = omega arith
-
-pub loop-t-smaller : goal.loop-t-smaller
-loop-t-smaller c = omega arith
+bounds-next-at c = omega (arith, c.loop-t.invariant.2.full)
 
 pub loop-t-preserved : goal.loop-t-preserved
 loop-t-preserved c = (
-  (omega arith, omega arith),
-  (
-    ap (λ (r : Netlist). with_second r (set c.loop-t.next.address2 c.loop-t.t c.code_of.result)) c.loop-t.invariant.1.0,
-    coded-next 12 (λ x. output_code c.args.table.now (c.args.net.m + c.args.net.n + x)) c.loop-t.next.address2 c.loop-t.t c.code_of.result.0 (omega arith) (c.code_of.ensures ∙ output-at c.args.table.now (c.args.net.m + c.args.net.n + c.loop-t.t) _ (omega arith)) c.loop-t.invariant.1.1,
-  ),
+  omega arith,
+    ap (λ (r : Netlist). with_second r (set c.loop-t.next.address2 c.loop-t.t c.code_of.result)) c.loop-t.invariant.1,
+    coded-next 12 (λ x. output_code c.args.table.now (c.args.net.m + c.args.net.n + x)) c.loop-t.next.address2 c.loop-t.t c.code_of.result.0 (omega arith) (c.code_of.ensures ∙ output-at c.args.table.now (c.args.net.m + c.args.net.n + c.loop-t.t) _ (omega arith)) c.loop-t.invariant.2,
 )
 
 pub returns : goal.returns
 returns c =
     let all : c.loop-t.t ≡ c.args.net.second_port * c.args.net.m = omega arith in
-    record { others = c.loop-t.invariant.1.0; codes = rw (← all) c.loop-t.invariant.1.1 }
+    record { others = c.loop-t.invariant.1; codes = rw (← all) c.loop-t.invariant.2 }

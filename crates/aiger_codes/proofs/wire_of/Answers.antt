@@ -1,11 +1,12 @@
 -- `aiger_codes::wire_of` meets its contract. The loop's invariant: no wire before w has the variable.
 
+use mathlib.Core.Path.{◌≡◌, sym, ◌∙◌}
 use native.Mathlib.Omega.{arith}
 use Rattle.aiger_codes.proofs.WireTable.{found_at, not-before-next}
 use Rattle.aiger_codes.proofs.wire_of.Goals as goal
 
 pub loop-w-init : goal.loop-w-init
-loop-w-init c = (omega arith, λ q b. absurd (omega arith))
+loop-w-init c = λ q b. absurd (omega arith)
 
 pub overflow_cast-at : goal.overflow_cast-at
 overflow_cast-at c = omega arith
@@ -18,18 +19,13 @@ bounds-table-at c = omega arith
 
 pub returns-then-table-at : goal.returns-then-table-at
 returns-then-table-at c =
-    (found_at c.args.table.now c.args.variable c.loop-w.w (omega arith) c.loop-w.invariant.1 (λ l. omega arith), omega arith)
-
-pub overflow_add-w : goal.overflow_add-w
-overflow_add-w c = omega arith
-
-pub loop-w-smaller : goal.loop-w-smaller
-loop-w-smaller c = omega arith
+    (found_at c.args.table.now c.args.variable c.loop-w.w (omega arith) c.loop-w.invariant (λ l. omega arith), omega arith)
 
 pub loop-w-preserved : goal.loop-w-preserved
 loop-w-preserved c =
-    (omega arith, not-before-next c.args.table.now c.args.variable c.loop-w.w c.loop-w.invariant.1 c.if-table-at.false)
+    not-before-next c.args.table.now c.args.variable c.loop-w.w c.loop-w.invariant c.if-table-at.false
 
 pub returns : goal.returns
 returns c =
-    (found_at c.args.table.now c.args.variable c.loop-w.w (omega arith) c.loop-w.invariant.1 (λ l. absurd (omega arith)), omega arith)
+    let all : c.loop-w.w ≡ 601 = omega arith in
+    (sym all ∙ found_at c.args.table.now c.args.variable c.loop-w.w (omega arith) c.loop-w.invariant (λ l. absurd (omega arith)), omega arith)

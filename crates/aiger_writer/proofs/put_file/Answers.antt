@@ -6,7 +6,7 @@ use native.Mathlib.Nat.{zero-mul}
 use mathlib.Core.List.{[]}
 use native.Mathlib.Omega.{arith}
 use Rattle.model.specs.Acceptance.{WithinLimits}
-use Rattle.model.proofs.Wrote.{wrote_then, rest-within, rest-room}
+use Rattle.model.proofs.Wrote.{wrote_then, rest-room}
 use Rattle.netlist.specs.NetOf.{first_at, net_of, alone}
 use Rattle.netlist.specs.declared.Netlist.{Netlist}
 use Rattle.netlist.proofs.NetOf.{limits-without-latches, limits-without-gates}
@@ -87,14 +87,6 @@ put_header-header-requires c =
     let reads : c.order_of-order.result.reads ≡ read_count c.args.net = rw c.order_of-order.ensures in
     (omega (arith, fits.wires), omega (arith, fits.m-most, fits.n-most), omega (arith, c.requires.1))
 
-pub slice_bounds-put_nexts-count : goal.slice_bounds-put_nexts-count
-slice_bounds-put_nexts-count c =
-    let header = c.put_header-header.ensures in
-    rest-within header.0 (omega (arith, header.1, c.requires.1))
-
-pub slice_bounds-put_nexts-start : goal.slice_bounds-put_nexts-start
-slice_bounds-put_nexts-start c = omega (arith, slice_bounds-put_nexts-count c)
-
 pub put_nexts-requires : goal.put_nexts-requires
 put_nexts-requires c =
     let fits = sizes (goal.at.put_nexts-requires c).Start in
@@ -104,20 +96,6 @@ put_nexts-requires c =
       next_fits (goal.at.put_nexts-requires c).Start,
       rest-room header.0 (omega (arith, header.1, fits.wires, c.requires.1)),
     )
-
-pub overflow_add-nexts : goal.overflow_add-nexts
-overflow_add-nexts c =
-    let fits = sizes (goal.at.overflow_add-nexts c).Start in
-    omega (arith, fits.wires, c.put_header-header.ensures.1, c.put_nexts.ensures.1)
-
-pub slice_bounds-put_outputs-count : goal.slice_bounds-put_outputs-count
-slice_bounds-put_outputs-count c =
-    let header = c.put_header-header.ensures in
-    let nexts = c.put_nexts.ensures in
-    rest-within (wrote_then _ _ _ _ _ _ _ header.0 nexts.0) (omega (arith, header.1, nexts.1, (sizes (goal.at.slice_bounds-put_outputs-count c).Start).wires, c.requires.1))
-
-pub slice_bounds-put_outputs-start : goal.slice_bounds-put_outputs-start
-slice_bounds-put_outputs-start c = omega (arith, slice_bounds-put_outputs-count c)
 
 pub put_outputs-requires : goal.put_outputs-requires
 put_outputs-requires c =
@@ -132,23 +110,6 @@ put_outputs-requires c =
       c.requires.2,
     )
 
-pub overflow_add-outputs : goal.overflow_add-outputs
-overflow_add-outputs c =
-    let fits = sizes (goal.at.overflow_add-outputs c).Start in
-    omega (arith, fits.wires, fits.m-most, fits.n-most, c.put_header-header.ensures.1, c.put_nexts.ensures.1, c.put_outputs.ensures.1)
-
-pub slice_bounds-put_gates-count : goal.slice_bounds-put_gates-count
-slice_bounds-put_gates-count c =
-    let fits = sizes (goal.at.slice_bounds-put_gates-count c).Start in
-    let header = c.put_header-header.ensures in
-    let nexts = c.put_nexts.ensures in
-    let outputs = c.put_outputs.ensures in
-    rest-within (wrote_then _ _ _ _ _ _ _ (wrote_then _ _ _ _ _ _ _ header.0 nexts.0) outputs.0)
-    (omega (arith, header.1, nexts.1, outputs.1, fits.wires, fits.m-most, fits.n-most, c.requires.1))
-
-pub slice_bounds-put_gates-start : goal.slice_bounds-put_gates-start
-slice_bounds-put_gates-start c = omega (arith, slice_bounds-put_gates-count c)
-
 pub put_gates-requires : goal.put_gates-requires
 put_gates-requires c =
     let fits = sizes (goal.at.put_gates-requires c).Start in
@@ -159,11 +120,6 @@ put_gates-requires c =
       rest-room (wrote_then _ _ _ _ _ _ _ (wrote_then _ _ _ _ _ _ _ header.0 nexts.0) outputs.0)
           (omega (arith, header.1, nexts.1, outputs.1, fits.wires, fits.m-most, fits.n-most, c.requires.1)),
     )
-
-pub overflow_add-result : goal.overflow_add-result
-overflow_add-result c =
-    let fits = sizes (goal.at.overflow_add-result c).Start in
-    omega (arith, fits.wires, fits.m-most, fits.n-most, c.put_header-header.ensures.1, c.put_nexts.ensures.1, c.put_outputs.ensures.1, c.put_gates.ensures.1)
 
 pub returns : goal.returns
 unfolding net_of aig_text output_of

@@ -1,7 +1,6 @@
 -- `aiger_writer::put_gate_at` meets its contract.
 
-use Prim.Native.Nat.{◌*◌, ◌<◌, min, max}
-use mathlib.Core.Path.{◌≡◌}
+use Prim.Native.Nat.{◌*◌, ◌<◌}
 use native.Mathlib.Omega.{arith}
 use Rattle.netlist.specs.NetOf.{first_at, second_at}
 use Rattle.aiger_ordered.proofs.OrderedAig.{code_below}
@@ -25,18 +24,6 @@ pub put_gate-requires : goal.put_gate-requires
 put_gate-requires c =
     (omega (arith, c.requires.0), right-below (goal.at.put_gate-requires c).After-file_code-right, omega (arith, c.if-left-right.true), c.requires.3)
 
-pub returns-then-left-right : goal.returns-then-left-right
-returns-then-left-right c =
-    let larger : max c.file_code-left.result.0 c.file_code-right.result.0 ≡ c.file_code-right.result.0 = omega (arith, c.if-left-right.true) in
-    let smaller : min c.file_code-left.result.0 c.file_code-right.result.0 ≡ c.file_code-left.result.0 = omega (arith, c.if-left-right.true) in
-    rw (← c.file_code-left.ensures.0, ← c.file_code-right.ensures.0, larger, smaller) c.put_gate.ensures
-
 pub put_gate-requires-2 : goal.put_gate-requires-2
 put_gate-requires-2 c =
     (omega (arith, c.requires.0), left_below (goal.at.put_gate-requires-2 c).After-file_code-right, omega (arith, c.if-left-right.false), c.requires.3)
-
-pub returns : goal.returns
-returns c =
-    let larger : max c.file_code-left.result.0 c.file_code-right.result.0 ≡ c.file_code-left.result.0 = omega (arith, c.if-left-right.false) in
-    let smaller : min c.file_code-left.result.0 c.file_code-right.result.0 ≡ c.file_code-right.result.0 = omega (arith, c.if-left-right.false) in
-    rw (← c.file_code-left.ensures.0, ← c.file_code-right.ensures.0, larger, smaller) c.put_gate-2.ensures
