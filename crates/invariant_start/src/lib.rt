@@ -2,7 +2,6 @@
 #![tactic(auto)]
 
 ghost use Rattle.std.specs.Prelude.{◌≡◌, [], ◌<◌};
-ghost use Rattle.std.specs.Bool.{beq};
 ghost use Rattle.model.specs.Netlist.{start};
 ghost use Rattle.model.specs.Acceptance.{SizesFit};
 ghost use Rattle.netlist.specs.NetOf.{net_of, alone};
@@ -12,23 +11,13 @@ ghost use Rattle.invariant_start.specs.Progress.{progress};
 
 use netlist::{Netlist, UnpackedList};
 
-// Whether two Booleans are the same.
-fn is_same(a: bool, b: bool) -> bool
-    ensures { result ≡ beq a b }
-{
-    if b {
-        return a;
-    }
-    !a
-}
-
 // Whether bit t of every word is this one at the start.
 fn word_starts(net: Netlist, t: u32, value: bool) -> bool
     requires { t < 32 }
     ensures { result ≡ word_starts (start (alone net)) t value }
 {
     if net.unknown_start == 0 {
-        return is_same((net.initial_word >> t) % 2 == 1, value);
+        return ((net.initial_word >> t) % 2 == 1) == value;
     }
     false
 }
@@ -39,7 +28,7 @@ fn bit_starts(net: Netlist, latches: &UnpackedList, j: u32, value: bool) -> bool
     ensures { result ≡ bit_starts (net_of net latches.now []) j value }
 {
     if j < net.latches {
-        return is_same(latches[2 * (j as usize) + 1] == 1, value);
+        return (latches[2 * (j as usize) + 1] == 1) == value;
     }
     let reads = netlist::read_count(net);
     if j < net.latches + reads {
@@ -88,13 +77,11 @@ pub fn holds_at_start(net: Netlist, latches: &UnpackedList, invariant: &[i32]) -
 {
     let b = invariant_terms::state_count(net);
     let mut state: u32 = 1;
-    let mut i: usize = 0;
-    while i < invariant.len() {
-        state = next(net, latches, b, state, invariant[i]);
+    for number in invariant {
+        state = next(net, latches, b, state, *number);
         if state == 0 {
             return false;
         }
-        i += 1;
     }
     true
 }

@@ -76,10 +76,8 @@ pub fn put_requests(
         out.old out.new result × (result ≤ length requests.now / 3 * 5) }
 {
     let b = invariant_terms::state_count(net);
-    let count = requests.len() / 3;
-    let mut at: usize = 0;
-    let mut x: usize = 0;
-    while x < count {
+    let mut at = 0;
+    for x in 0..requests.len() / 3 {
         let request = requests[3 * x];
         let law = invariant_requests::requested(
             net,
@@ -91,8 +89,7 @@ pub fn put_requests(
             requests[3 * x + 1],
             requests[3 * x + 2],
         );
-        at = at + put_clause(&mut out[at..], request % 2, law);
-        x = x + 1;
+        at += put_clause(&mut out[at..], request % 2, law);
     }
     at
 }

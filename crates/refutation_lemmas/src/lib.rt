@@ -19,14 +19,12 @@ pub enum Checked {
 fn clause_end(store: &[i32], at: usize) -> usize
     ensures { result ≡ at + before_end (drop at store.now) }
 {
-    let mut i = at;
-    while i < store.len() {
+    for i in at..store.len() {
         if refutation_hints::slot(store[i]) == 0 {
             return i;
         }
-        i += 1;
     }
-    i
+    at.max(store.len())
 }
 
 // Whether the lemma between two places of the store follows by the hints from place `first` on, of which there are to be `count`.

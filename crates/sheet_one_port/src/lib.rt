@@ -40,28 +40,15 @@ fn second_use(net: Netlist, latches: &UnpackedList, gates: &UnpackedList, line: 
     ensures { result ≡ second_use (net_of net latches.now gates.now) line }
 {
     match line {
-        Line::Sizes => false,
-        Line::Memory => false,
-        Line::Latch(l) => {
-            let at = 2 * (l as usize);
-            names_second(net, Code(latches[at]))
-        }
+        Line::Sizes | Line::Memory => false,
+        Line::Latch(l) => names_second(net, Code(latches[2 * (l as usize)])),
         Line::Gate(g) => {
             let at = 2 * (g as usize);
             names_second(net, Code(gates[at])) | names_second(net, Code(gates[at + 1]))
         }
-        Line::Address(t) => {
-            let at = t as usize;
-            names_second(net, net.address[at])
-        }
-        Line::WriteData(t) => {
-            let at = t as usize;
-            names_second(net, net.write_data[at])
-        }
-        Line::SecondAddress(t) => {
-            let at = t as usize;
-            names_second(net, net.address2[at])
-        }
+        Line::Address(t) => names_second(net, net.address[t as usize]),
+        Line::WriteData(t) => names_second(net, net.write_data[t as usize]),
+        Line::SecondAddress(t) => names_second(net, net.address2[t as usize]),
         Line::SecondEnable => !is_false(net.re2),
         Line::Control => {
             names_second(net, net.we) | names_second(net, net.re) | names_second(net, net.p)
@@ -74,10 +61,7 @@ fn test_second(net: Netlist, latches: &UnpackedList, gates: &UnpackedList) -> Ve
     requires { SizesFit (alone net) }
     ensures { result ≡ test_second (net_of net latches.now gates.now) }
 {
-    let last = netlist::control_line(net);
-    let mut place = 0;
-    while place < last {
-        place += 1;
+    for place in 1..=netlist::control_line(net) {
         let line = netlist::line_at(net, place);
         if second_use(net, latches, gates, line) {
             return Err(Refused(Refusal::SecondPort, place));
@@ -99,61 +83,38 @@ fn one_code(net: Netlist, code: Code) -> Code
 
 // Renumbers a list. A latch's reset is 0 or 1, which as codes are no wire's and stay.
 fn renumber(net: Netlist, codes: &mut UnpackedList)
-    requires { SizesFit (alone net) × (length codes.old ≡ 1200) }
+    requires { SizesFit (alone net) }
     ensures { RenumberedList net codes.old codes.new }
 {
-    let mut i: usize = 0;
-    while i < 1200 {
+    for i in 0..1200 {
         codes[i] = one_code(net, Code(codes[i])).0;
-        i += 1;
     }
 }
 
-// The address codes renumbered.
-fn one_address(net: Netlist) -> [Code; 12]
-    requires { SizesFit (alone net) × (length net.address ≡ 12) }
-    ensures { (t : ℕ) → t < 12 → code_of result t ≡ one_code (alone net) (code_of net.address t) }
+// Renumbers codes in place.
+fn renumber_codes(net: Netlist, codes: &mut [Code])
+    requires { SizesFit (alone net) }
+    ensures { (t : ℕ) → t < length codes.old → code_of codes.new t ≡ one_code (alone net) (code_of codes.old t) }
 {
-    let mut address = net.address;
-    let mut t: usize = 0;
-    while t < 12 {
-        address[t] = one_code(net, address[t]);
-        t += 1;
+    for code in codes.iter_mut() {
+        *code = one_code(net, *code);
     }
-    address
-}
-
-// The write-data codes renumbered.
-fn one_data(net: Netlist) -> [Code; 32]
-    requires { SizesFit (alone net) × (length net.write_data ≡ 32) }
-    ensures { (t : ℕ) → t < 32 → code_of result t ≡ one_code (alone net) (code_of net.write_data t) }
-{
-    let mut words = net.write_data;
-    let mut t: usize = 0;
-    while t < 32 {
-        words[t] = one_code(net, words[t]);
-        t += 1;
-    }
-    words
 }
 
 // The record without its second port.
 fn one_record(net: Netlist) -> Netlist
-    requires { SizesFit (alone net) × (length net.address ≡ 12) × (length net.write_data ≡ 32) }
+    requires { SizesFit (alone net) }
     ensures { RenumberedRecord net result }
 {
     let none = Code(0);
-    let address = one_address(net);
-    let data = one_data(net);
-    let second = [none; 12];
     let mut one = net;
     one.second_port = 0;
-    one.address = address;
-    one.write_data = data;
+    renumber_codes(net, &mut one.address);
+    renumber_codes(net, &mut one.write_data);
     one.we = one_code(net, net.we);
     one.re = one_code(net, net.re);
     one.p = one_code(net, net.p);
-    one.address2 = second;
+    one.address2 = [none; 12];
     one.re2 = none;
     one
 }

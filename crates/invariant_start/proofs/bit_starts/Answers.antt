@@ -19,7 +19,7 @@ bounds-latches-j c =
 pub returns-then-j-net : goal.returns-then-j-net
 unfolding net_of bit_starts
 returns-then-j-net c =
-    c.is_same.ensures ∙ rw (lt-ltb c.args.j c.args.net.latches c.if-j-net.true)
+    rw (lt-ltb c.args.j c.args.net.latches c.if-j-net.true)
 
 pub overflow_add-net : goal.overflow_add-net
 unfolding net_of

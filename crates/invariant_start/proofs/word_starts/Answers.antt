@@ -1,6 +1,5 @@
 -- `invariant_start::word_starts` meets its contract.
 
-use mathlib.Core.Path.{◌∙◌}
 use Rattle.model.specs.Bits.{odd, bit}
 use Rattle.netlist.specs.NetOf.{net_of}
 use Rattle.invariant_start.proofs.Numbers.{word-given, word-unknown}
@@ -9,7 +8,7 @@ use Rattle.invariant_start.proofs.word_starts.Goals as goal
 pub returns-then-net-eq0 : goal.returns-then-net-eq0
 unfolding net_of bit odd
 returns-then-net-eq0 c =
-    c.is_same.ensures ∙ word-given c.args.net.initial_word c.args.net.unknown_start c.args.t c.args.value c.if-net-eq0.true
+    word-given c.args.net.initial_word c.args.net.unknown_start c.args.t c.args.value c.if-net-eq0.true
 
 pub returns : goal.returns
 unfolding net_of

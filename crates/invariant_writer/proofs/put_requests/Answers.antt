@@ -11,7 +11,7 @@ loop-x-init c = turns-start _ _ _ _ c.requires.1
 pub loop-x-preserved : goal.loop-x-preserved
 unfolding requested_clause
 loop-x-preserved c =
-    turns_next c.loop-x.invariant c.loop-x-test.true (rw c.requested-law.ensures at c.put_clause-at.ensures)
+    turns_next c.loop-x.invariant (omega arith) (rw c.requested-law.ensures at c.put_clause-at.ensures)
 
 pub returns : goal.returns
 returns c =

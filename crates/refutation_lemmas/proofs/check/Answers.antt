@@ -97,18 +97,6 @@ returns-then-store-end c =
     (sym (checked-none (length c.clear.new.marks / 2) c.args.store.now c.loop-i.at c.clause_end-end.result c.clause_end-end.ensures c.if-store-end.true (drop c.loop-i.i c.args.hints.now) c.loop-i.lemma) ∙ c.loop-i.invariant.4) in
     record { answer = is.0; refuted = is.1.0; scratch = is.1.1 }
 
-pub next_turn-turn-requires : goal.next_turn-turn-requires
-next_turn-turn-requires c = c.loop-i.invariant.3
-
-pub bounds-hints-i : goal.bounds-hints-i
-bounds-hints-i c = omega (arith, c.loop-i-test.true)
-
-pub overflow_cast-count : goal.overflow_cast-count
-overflow_cast-count c = omega (arith, c.type_inv.hints c.loop-i.i)
-
-pub overflow_add-first : goal.overflow_add-first
-overflow_add-first c = omega (arith, c.loop-i-test.true)
-
 pub is_justified-requires : goal.is_justified-requires
 is_justified-requires c = (
   omega (arith, c.clause_end-end.ensures),
@@ -126,9 +114,6 @@ returns-then-end-at c =
     let is = found (take c.args.front c.args.store.now) (drop c.args.front c.args.store.now) c.args.hints.now (length c.clear.new.marks) (length c.args.marks.now) _ _ c.clear.auto.marks (as_many (goal.at.returns-then-end-at c).After-is_justified)
     (sym here ∙ c.loop-i.invariant.4) in
     record { answer = is.0; refuted = is.1.0; scratch = is.1.1 }
-
-pub overflow_add-at : goal.overflow_add-at
-overflow_add-at c = omega (arith, c.if-store-end.false, c.well_formed.0.0)
 
 pub overflow_add-i : goal.overflow_add-i
 overflow_add-i c = omega (arith, hints-there (goal.at.overflow_add-i c).After-is_justified c.if-is_justified.true, c.well_formed.1.1.0.0)

@@ -18,29 +18,20 @@ read c =
     ∙ slot_read c.args.store.now c.loop-i.i (omega arith)
 
 pub loop-i-init : goal.loop-i-init
-loop-i-init c = refl
-
-pub bounds-store-i : goal.bounds-store-i
-bounds-store-i c = omega arith
+loop-i-init c = (omega arith, refl)
 
 pub returns-then-slot-eq0 : goal.returns-then-slot-eq0
 returns-then-slot-eq0 c =
     let store = c.args.store.now in
     let here = c.loop-i-test.true in
-    omega (arith, c.loop-i.invariant, ends_at store c.loop-i.i here (rw (read (goal.at.returns-then-slot-eq0 c).After-slot) at c.if-slot-eq0.true))
-
-pub overflow_add-i : goal.overflow_add-i
-overflow_add-i c = omega arith
-
-pub loop-i-smaller : goal.loop-i-smaller
-loop-i-smaller c = omega arith
+    omega (arith, c.loop-i.invariant.1, ends_at store c.loop-i.i here (rw (read (goal.at.returns-then-slot-eq0 c).After-slot) at c.if-slot-eq0.true))
 
 pub loop-i-preserved : goal.loop-i-preserved
 loop-i-preserved c =
     let store = c.args.store.now in
     let here = c.loop-i-test.true in
-    omega (arith, c.loop-i.invariant, goes_on store c.loop-i.i here (rw (read (goal.at.loop-i-preserved c).After-slot) at c.if-slot-eq0.false))
+    (omega arith, omega (arith, c.loop-i.invariant.1, goes_on store c.loop-i.i here (rw (read (goal.at.loop-i-preserved c).After-slot) at c.if-slot-eq0.false)))
 
 pub returns : goal.returns
 returns c =
-    omega (arith, c.loop-i.invariant, ended c.args.store.now c.loop-i.i c.loop-i-test.false)
+    omega (arith, c.loop-i.invariant.1, ended c.args.store.now c.loop-i.i c.loop-i-test.false)

@@ -45,17 +45,13 @@ returns-in-Err-used c =
     rw c.refused.ensures (read-refused file refl (tests-second file (passed (goal.at.returns-in-Err-used c).In_default) ∙ second))
 
 pub renumber-requires : goal.renumber-requires
-renumber-requires c =
-    (sizes (goal.at.renumber-requires c).In_default, (holds c.read_codes-sheet.ensures (read-passed (goal.at.renumber-requires c).In_default)).full.latch-codes)
+renumber-requires c = sizes (goal.at.renumber-requires c).In_default
 
 pub renumber-requires-2 : goal.renumber-requires-2
-renumber-requires-2 c =
-    (sizes (goal.at.renumber-requires-2 c).In_default, (holds c.read_codes-sheet.ensures (read-passed (goal.at.renumber-requires-2 c).In_default)).full.gate-codes)
+renumber-requires-2 c = sizes (goal.at.renumber-requires-2 c).In_default
 
 pub one_record-requires : goal.one_record-requires
-one_record-requires c =
-    let full = (holds c.read_codes-sheet.ensures (read-passed (goal.at.one_record-requires c).In_default)).full in
-    (sizes (goal.at.one_record-requires c).In_default, full.address-codes, full.data-codes)
+one_record-requires c = sizes (goal.at.one_record-requires c).In_default
 
 pub returns : goal.returns
 returns c =

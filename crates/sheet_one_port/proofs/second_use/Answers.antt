@@ -1,6 +1,7 @@
 -- `sheet_one_port::second_use` meets its contract: each arm knows its line, whose number is below its size.
 
 use mathlib.Core.Path.{subst}
+use mathlib.Core.Logic.{inl, inr}
 use native.Mathlib.Omega.{arith}
 use Rattle.model.specs.OnePort.{names_second}
 use Rattle.netlist.specs.NetOf.{code_of, net_of, alone}
@@ -8,8 +9,8 @@ use Rattle.netlist.specs.Places.{HasLine}
 use Rattle.sheet_one_port.specs.SecondPort.{second_use}
 use Rattle.sheet_one_port.proofs.second_use.Goals as goal
 
-pub bounds-latches-at : goal.bounds-latches-at
-bounds-latches-at c = omega (arith, subst (HasLine (alone c.args.net)) c.in-Latch.is c.requires.1, c.requires.0.latches-fit)
+pub bounds-latches-l : goal.bounds-latches-l
+bounds-latches-l c = omega (arith, subst (HasLine (alone c.args.net)) c.in-Latch.is c.requires.1, c.requires.0.latches-fit)
 
 pub bounds-gates-at : goal.bounds-gates-at
 bounds-gates-at c = omega (arith, subst (HasLine (alone c.args.net)) c.in-Gate.is c.requires.1, c.requires.0.gates-fit)
@@ -17,22 +18,18 @@ bounds-gates-at c = omega (arith, subst (HasLine (alone c.args.net)) c.in-Gate.i
 pub bounds-gates-at-in-Gate : goal.bounds-gates-at-in-Gate
 bounds-gates-at-in-Gate c = omega (arith, subst (HasLine (alone c.args.net)) c.in-Gate.is c.requires.1, c.requires.0.gates-fit)
 
-pub bounds-net-at : goal.bounds-net-at
-bounds-net-at c = omega (arith, subst (HasLine (alone c.args.net)) c.in-Address.is c.requires.1, c.requires.0.m-most)
+pub bounds-net-t : goal.bounds-net-t
+bounds-net-t c = omega (arith, subst (HasLine (alone c.args.net)) c.in-Address.is c.requires.1, c.requires.0.m-most)
 
-pub bounds-net-at-in-WriteData : goal.bounds-net-at-in-WriteData
-bounds-net-at-in-WriteData c = omega (arith, subst (HasLine (alone c.args.net)) c.in-WriteData.is c.requires.1, c.requires.0.n-most)
+pub bounds-net-t-in-WriteData : goal.bounds-net-t-in-WriteData
+bounds-net-t-in-WriteData c = omega (arith, subst (HasLine (alone c.args.net)) c.in-WriteData.is c.requires.1, c.requires.0.n-most)
 
-pub bounds-net-at-in-SecondAddress : goal.bounds-net-at-in-SecondAddress
-bounds-net-at-in-SecondAddress c = omega (arith, (subst (HasLine (alone c.args.net)) c.in-SecondAddress.is c.requires.1).1, c.requires.0.m-most)
+pub bounds-net-t-in-SecondAddress : goal.bounds-net-t-in-SecondAddress
+bounds-net-t-in-SecondAddress c = omega (arith, (subst (HasLine (alone c.args.net)) c.in-SecondAddress.is c.requires.1).1, c.requires.0.m-most)
 
 pub returns-in-Sizes : goal.returns-in-Sizes
 unfolding second_use
-returns-in-Sizes c = rw c.in-Sizes.is
-
-pub returns-in-Memory : goal.returns-in-Memory
-unfolding second_use
-returns-in-Memory c = rw c.in-Memory.is
+returns-in-Sizes c = elim c.in-Sizes.is [ inl e ↦ rw e | inr e ↦ rw e ]
 
 pub returns-in-Latch : goal.returns-in-Latch
 unfolding net_of second_use names_second

@@ -1,6 +1,6 @@
--- `sheet_one_port::test_second` meets its contract. The loop's invariant: the lines up to the place do not use the second port.
+-- `sheet_one_port::test_second` meets its contract. The loop's invariant: the lines before the place do not use the second port.
 
-use Prim.Native.Nat.{◌+◌}
+use Prim.Native.Nat.{◌-◌}
 use mathlib.Core.Path.{◌≡◌, refl, sym, ◌∙◌, ap}
 use native.Mathlib.Omega.{arith}
 use Rattle.refusals.specs.Tests.{in_order}
@@ -9,63 +9,59 @@ use Rattle.netlist.specs.NetOf.{net_of, alone}
 use Rattle.netlist.specs.Places.{line_at}
 use Rattle.netlist.proofs.NetOf.{line_at-lists}
 use Rattle.netlist.proofs.Places.{has-line_at}
-use Rattle.netlist_tests.proofs.Record.{passed-next, refused-next, passed-all}
+use Rattle.netlist_tests.proofs.Record.{passed-place, refused-place, passed-last, passed-all}
 use Rattle.sheet_one_port.specs.SecondPort.{second_use}
 use Rattle.sheet_one_port.proofs.test_second.Goals as goal
 use Rattle.sheet_one_port.proofs.test_second.Goals.{After-second_use}
 
 pub loop-place-init : goal.loop-place-init
 unfolding in_order
-loop-place-init c = (omega arith, refl)
-
-pub overflow_add-place : goal.overflow_add-place
-unfolding net_of
-overflow_add-place c = omega (arith, c.control_line-last.ensures, c.requires)
+loop-place-init c = refl
 
 pub second_use-requires : goal.second_use-requires
 second_use-requires c = (
   c.requires,
-  rw c.line_at-line.ensures (has-line_at (alone c.args.net) (c.loop-place.place + 1)),
+  rw c.line_at-line.ensures (has-line_at (alone c.args.net) c.loop-place.place),
 )
 
--- what the turn's call says of the line at the next place
-tested : (c : After-second_use) → second_use (net_of c.args.net c.args.latches.now c.args.gates.now) (line_at (net_of c.args.net c.args.latches.now c.args.gates.now) (c.loop-place.place + 1)) ≡ c.second_use.result
+-- what the turn's call says of the line at the place
+tested : (c : After-second_use) → second_use (net_of c.args.net c.args.latches.now c.args.gates.now) (line_at (net_of c.args.net c.args.latches.now c.args.gates.now) c.loop-place.place) ≡ c.second_use.result
 tested c =
     let d = net_of c.args.net c.args.latches.now c.args.gates.now in
-    ap (second_use d) (sym (line_at-lists c.args.net c.args.latches.now c.args.gates.now (c.loop-place.place + 1)) ∙ sym c.line_at-line.ensures)
+    ap (second_use d) (sym (line_at-lists c.args.net c.args.latches.now c.args.gates.now c.loop-place.place) ∙ sym c.line_at-line.ensures)
     ∙ sym c.second_use.ensures
 
 pub returns-then-second_use : goal.returns-then-second_use
 unfolding net_of
 returns-then-second_use c =
-    sym (refused-next (net_of c.args.net c.args.latches.now c.args.gates.now) SecondPort second_use
+    sym (refused-place (net_of c.args.net c.args.latches.now c.args.gates.now) SecondPort second_use
     c.loop-place.place
-    c.loop-place.invariant.1
+    (omega arith)
+    c.loop-place.invariant
     (tested (goal.at.returns-then-second_use c).After-second_use ∙ c.if-second_use.true)
     (omega arith))
 
 pub loop-place-preserved : goal.loop-place-preserved
-loop-place-preserved c = (
-  omega arith,
-  passed-next (net_of c.args.net c.args.latches.now c.args.gates.now) SecondPort second_use
-      c.loop-place.place
-      c.loop-place.invariant.1
-      (tested (goal.at.loop-place-preserved c).After-second_use ∙ c.if-second_use.false),
-)
+loop-place-preserved c =
+    passed-place (net_of c.args.net c.args.latches.now c.args.gates.now) SecondPort second_use
+    c.loop-place.place
+    (omega arith)
+    c.loop-place.invariant
+    (tested (goal.at.loop-place-preserved c).After-second_use ∙ c.if-second_use.false)
 
 pub returns : goal.returns
 unfolding net_of
 returns c =
     sym (passed-all (net_of c.args.net c.args.latches.now c.args.gates.now) SecondPort second_use
-    c.loop-place.place
-    (omega (arith, c.control_line-last.ensures))
-    c.loop-place.invariant.1)
+    (c.loop-place.place - 1)
+    (omega (arith, c.control_line-place-end.ensures))
+    c.loop-place.invariant)
 
-pub control_line-last-requires : goal.control_line-last-requires
-control_line-last-requires c = c.requires
-
-pub line_at-line-requires : goal.line_at-line-requires
-line_at-line-requires c = c.requires
-
-pub loop-place-smaller : goal.loop-place-smaller
-loop-place-smaller c = omega arith
+pub returns-else-second_use : goal.returns-else-second_use
+unfolding net_of
+returns-else-second_use c =
+    sym (passed-last (net_of c.args.net c.args.latches.now c.args.gates.now) SecondPort second_use c.loop-place.place
+    (omega arith)
+    c.loop-place.invariant
+    (tested (goal.at.returns-else-second_use c).After-second_use ∙ c.if-second_use.false)
+    (omega (arith, c.control_line-place-end.ensures)))
