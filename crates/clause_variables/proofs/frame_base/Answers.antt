@@ -2,16 +2,7 @@
 
 use Rattle.model.specs.Variables.{base}
 use Rattle.literals.specs.Numbering.{base_of}
-use Rattle.clause_variables.proofs.Room.{numbering-fits}
 use Rattle.clause_variables.proofs.frame_base.Goals as goal
-
-pub numbering-requires : goal.numbering-requires
-numbering-requires c = c.requires.0
-
-pub base-requires : goal.base-requires
-base-requires c =
-    let p = c.requires in
-    numbering-fits p.0 c.numbering.ensures.0 c.numbering.ensures.1 p.1
 
 pub returns : goal.returns
 unfolding base base_of

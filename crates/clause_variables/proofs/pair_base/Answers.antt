@@ -7,9 +7,6 @@ use Rattle.clause_variables.specs.PortOf.{port_of}
 use Rattle.clause_variables.proofs.Room.{numbering-fits}
 use Rattle.clause_variables.proofs.pair_base.Goals as goal
 
-pub numbering-requires : goal.numbering-requires
-numbering-requires c = c.requires.0.limits.sizes
-
 pub pair_base-requires : goal.pair_base-requires
 unfolding port_of
 pair_base-requires c =
