@@ -17,13 +17,11 @@ fn first_reset(latches: &UnpackedList, count: u32) -> u32
     requires { count ≤ 600 }
     ensures { result ≡ first_where (λ l. eqb (second_at latches.now l) 1) count }
 {
-    let mut l = 0;
-    while l < count {
+    for l in 0..count {
         let at = 2 * (l as usize) + 1;
         if latches[at] == 1 {
             return l;
         }
-        l += 1;
     }
     count
 }

@@ -7,7 +7,6 @@ ghost use Rattle.std.specs.Prelude.{◌≡◌, true, length};
 ghost use Rattle.std.specs.Io.KnownBytes.{Appends};
 ghost use Rattle.program_import.specs.Printed.{import_output};
 
-use decimal::Number;
 use std::env::{Env, FillError};
 use std::io::Write;
 
@@ -31,11 +30,11 @@ fn print_usage<E: Write>(errors: &mut E) {
 }
 
 // An argument as a number of at most ten digits; one that is missing or longer is none.
-fn number_at<R: Env>(rt: &R, i: usize) -> Number {
+fn number_at<R: Env>(rt: &R, i: usize) -> Option<u32> {
     let mut word = [0; 10];
     match rt.arg(i, &mut word) {
         Ok(count) => decimal::read_number(&word[..count]),
-        Err(_) => Number::NotANumber,
+        Err(_) => None,
     }
 }
 
@@ -127,7 +126,7 @@ fn import_for(rt: &HostRuntime, m: u32, n: u32, count: usize) {
         import(rt, m, n, 0, 1, 0);
         return;
     }
-    let Number::Value(word) = number_at(rt, 3) else {
+    let Some(word) = number_at(rt, 3) else {
         print_usage(&mut rt.stderr());
         return;
     };
@@ -135,7 +134,7 @@ fn import_for(rt: &HostRuntime, m: u32, n: u32, count: usize) {
         import_ports(rt, m, n, word, 1);
         return;
     }
-    let Number::Value(ports) = number_at(rt, 4) else {
+    let Some(ports) = number_at(rt, 4) else {
         print_usage(&mut rt.stderr());
         return;
     };
@@ -148,11 +147,11 @@ fn main(rt: HostRuntime) {
         print_usage(&mut rt.stderr());
         return;
     }
-    let Number::Value(m) = number_at(&rt, 1) else {
+    let Some(m) = number_at(&rt, 1) else {
         print_usage(&mut rt.stderr());
         return;
     };
-    let Number::Value(n) = number_at(&rt, 2) else {
+    let Some(n) = number_at(&rt, 2) else {
         print_usage(&mut rt.stderr());
         return;
     };

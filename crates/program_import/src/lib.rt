@@ -24,10 +24,8 @@ fn line_count(text: &[u8]) -> usize
     ensures { result ≡ length (lines_of text.now) }
 {
     let mut lines = 0;
-    let mut i = 0;
-    while i < text.len() {
-        lines = lines + line_end(text[i]);
-        i += 1;
+    for &x in text {
+        lines += line_end(x);
     }
     lines
 }

@@ -3,7 +3,7 @@
 use Prim.Native.Nat.{◌+◌}
 use mathlib.Core.Path.{◌∙◌}
 use native.Mathlib.Omega.{arith}
-use borrow.Author.Tests.{lt-ltb, le-ltb}
+use borrow.Author.Tests.{lt-ltb}
 use Rattle.aiger_codes.proofs.Outputs.{output-at}
 use Rattle.aiger_codes.proofs.second_enable.Goals as goal
 
@@ -12,6 +12,3 @@ returns-then-net-gt0 c =
     let net = c.args.net in
     rw (lt-ltb 0 net.second_port c.if-net-gt0.true)
     (c.code_of.ensures ∙ output-at c.args.table.now (net.m + net.n + net.m) _ (omega arith))
-
-pub returns : goal.returns
-returns c = rw (le-ltb 0 c.args.net.second_port c.if-net-gt0.false)

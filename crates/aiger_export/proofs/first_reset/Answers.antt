@@ -13,7 +13,7 @@ use Rattle.netlist.specs.NetOf.{second_at}
 use Rattle.aiger_export.proofs.first_reset.Goals as goal
 
 pub loop-l-init : goal.loop-l-init
-loop-l-init c = (omega arith, λ q b. absurd (not-suc-le-zero b))
+loop-l-init c = λ q b. absurd (not-suc-le-zero b)
 
 pub overflow_cast-at : goal.overflow_cast-at
 overflow_cast-at c = omega arith
@@ -33,26 +33,18 @@ bounds-latches-at c = omega arith
 pub returns-then-latches-at-eq1 : goal.returns-then-latches-at-eq1
 returns-then-latches-at-eq1 c =
     first-unique
-    (record { within = omega arith; none_before = c.loop-l.invariant.1; holds-there = λ l. eq-eqb _ 1 c.if-latches-at-eq1.true })
+    (record { within = omega arith; none_before = c.loop-l.invariant; holds-there = λ l. eq-eqb _ 1 c.if-latches-at-eq1.true })
     (first_where-is (λ l. eqb (second_at c.args.latches.now l) 1) c.args.count)
-
-pub overflow_add-l : goal.overflow_add-l
-overflow_add-l c = omega arith
-
-pub loop-l-smaller : goal.loop-l-smaller
-loop-l-smaller c = omega arith
 
 pub loop-l-preserved : goal.loop-l-preserved
 loop-l-preserved c =
     let latches = c.args.latches.now in
-    let l = c.loop-l.l in (
-      omega arith,
-      rw add-one (all-below-suc (λ q. eqb (second_at latches q) 1 ≡ false) l c.loop-l.invariant.1 (ne_eqb _ 1 c.if-latches-at-eq1.false)),
-    )
+    let l = c.loop-l.l in
+    rw add-one (all-below-suc (λ q. eqb (second_at latches q) 1 ≡ false) l c.loop-l.invariant (ne_eqb _ 1 c.if-latches-at-eq1.false))
 
 pub returns : goal.returns
 returns c =
     let all : c.loop-l.l ≡ c.args.count = omega arith in
     first-unique
-    (record { within = omega arith; none_before = rw all at c.loop-l.invariant.1; holds-there = λ l. absurd (omega arith) })
+    (record { within = omega arith; none_before = rw all at c.loop-l.invariant; holds-there = λ l. absurd (omega arith) })
     (first_where-is (λ l. eqb (second_at c.args.latches.now l) 1) c.args.count)
