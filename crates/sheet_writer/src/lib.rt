@@ -214,11 +214,9 @@ pub fn put_sheet(
     ensures { Wrote (sheet_text (net_of net latches.now gates.now)) out.old out.new result }
 {
     let last = netlist::control_line(net);
-    let mut at: usize = 0;
-    let mut place: u32 = 0;
-    while place < last {
-        at = at + put_line_at(&mut out[at..], net, latches, gates, place + 1);
-        place = place + 1;
+    let mut at = 0;
+    for place in 0..last {
+        at += put_line_at(&mut out[at..], net, latches, gates, place + 1);
     }
     at
 }

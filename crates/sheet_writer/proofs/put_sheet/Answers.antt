@@ -17,17 +17,14 @@ use Rattle.sheet_writer.proofs.put_sheet.Invariants.{line_behind}
 use Rattle.sheet_writer.proofs.put_sheet.Goals as goal
 use Rattle.sheet_writer.proofs.put_sheet.Goals.{In-loop-place}
 
-pub control_line-last-requires : goal.control_line-last-requires
-control_line-last-requires c = c.requires.0
-
 pub loop-place-init : goal.loop-place-init
 unfolding gather
-loop-place-init c = (omega arith, refl, omega arith, record { counted = refl; leaves = refl })
+loop-place-init c = (refl, omega arith, record { counted = refl; leaves = refl })
 
 -- there is room for one line more
 room : (c : In-loop-place) → c.loop-place.at + 32 ≤ length c.loop-place.out
 room c =
-    omega (arith, c.loop-place.invariant.1, c.loop-place.invariant.2, c.control_line-last.ensures, c.requires.1)
+    omega (arith, c.loop-place.invariant.0, c.loop-place.invariant.1, c.control_line-last.ensures, c.requires.1)
 
 pub slice_bounds-put_line_at-count : goal.slice_bounds-put_line_at-count
 slice_bounds-put_line_at-count c = omega (arith, room c)
@@ -51,11 +48,10 @@ pub loop-place-preserved : goal.loop-place-preserved
 unfolding gather
 loop-place-preserved c =
     let line = line_behind c.args.net c.args.latches.now c.args.gates.now in (
-      omega arith,
-      same_len_mid c.loop-place.at (length c.loop-place.out - c.loop-place.at) c.loop-place.out c.put_line_at-at.new.out c.put_line_at-at.auto.out ∙ c.loop-place.invariant.1,
-      omega (arith, c.loop-place.invariant.2, c.put_line_at-at.ensures.1),
+      same_len_mid c.loop-place.at (length c.loop-place.out - c.loop-place.at) c.loop-place.out c.put_line_at-at.new.out c.put_line_at-at.auto.out ∙ c.loop-place.invariant.0,
+      omega (arith, c.loop-place.invariant.1, c.put_line_at-at.ensures.1),
       rw add-one
-          (wrote_then (gather c.loop-place.place line) (line c.loop-place.place) c.args.out.now c.loop-place.out c.put_line_at-at.new.out c.loop-place.at c.put_line_at-at.result c.loop-place.invariant.3 c.put_line_at-at.ensures.0),
+          (wrote_then (gather c.loop-place.place line) (line c.loop-place.place) c.args.out.now c.loop-place.out c.put_line_at-at.new.out c.loop-place.at c.put_line_at-at.result c.loop-place.invariant.2 c.put_line_at-at.ensures.0),
     )
 
 pub returns : goal.returns
@@ -63,10 +59,4 @@ unfolding net_of line_at
 returns c =
     let all : c.loop-place.place ≡ c.control_line-last.result = omega arith in
     rw (placed (net_of c.args.net c.args.latches.now c.args.gates.now) (omega (arith, c.requires.0.kind_fits)))
-    (rw (all, c.control_line-last.ensures) at c.loop-place.invariant.3)
-
-pub overflow_add-place-in-loop-place : goal.overflow_add-place-in-loop-place
-overflow_add-place-in-loop-place c = omega arith
-
-pub loop-place-smaller : goal.loop-place-smaller
-loop-place-smaller c = omega arith
+    (rw (all, c.control_line-last.ensures) at c.loop-place.invariant.2)

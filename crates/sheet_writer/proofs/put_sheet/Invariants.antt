@@ -1,6 +1,6 @@
 -- `sheet_writer::put_sheet` meets its contract. The loop has written the lines up to the place.
 
-use Prim.Native.Nat.{ℕ, ◌+◌, ◌-◌, ◌*◌, ◌≤◌}
+use Prim.Native.Nat.{ℕ, ◌+◌, ◌*◌, ◌≤◌}
 use mathlib.Core.Path.{◌≡◌}
 use mathlib.Core.List.{List}
 use lib.ListN.{length}
@@ -18,7 +18,4 @@ line_behind net latches gates p = printed_at (net_of net latches gates) (line_at
 
 abbrev pub invariant-loop-place : goal.invariant-loop-place
 invariant-loop-place l =
-    (l.place ≤ l.last) × (length l.out ≡ length l.initial.out) × (l.at ≤ l.place * 32) × Wrote (gather l.place (line_behind l.net l.latches l.gates)) l.initial.out l.out l.at
-
-abbrev pub decreases-loop-place : goal.decreases-loop-place
-decreases-loop-place l = l.last - l.place
+    (length l.out ≡ length l.initial.out) × (l.at ≤ l.place * 32) × Wrote (gather l.place (line_behind l.net l.latches l.gates)) l.initial.out l.out l.at
