@@ -1,7 +1,7 @@
 -- `group_counts::count_group` meets its contract: what the group's writer put in front of the numbers is the group.
 
 use Prim.Native.Nat.{◌≤◌}
-use mathlib.Core.Path.{◌≡◌, sym, ◌∙◌, ap}
+use mathlib.Core.Path.{◌≡◌, ◌∙◌, ap}
 use mathlib.Core.List.{List}
 use native.Mathlib.Omega.{arith}
 use lib.IntN.{ℤ}
@@ -10,27 +10,12 @@ use lib.Seq.{length-take-le}
 use Rattle.model.specs.Numbers.{clauses_in}
 use Rattle.model.proofs.Wrote.{wrote-length}
 use Rattle.group_counts.proofs.Counted.{wrote-front, numbers-most}
-use borrow.Author.Rules.{rules}
 use Rattle.group_counts.proofs.count_group.Goals as goal
-use Rattle.group_counts.proofs.count_group.Goals.{After-count_ends, After-put_group-count}
+use Rattle.group_counts.proofs.count_group.Goals.{After-count_ends}
 
 pub put_group-count-requires : goal.put_group-count-requires
 put_group-count-requires c =
     let p = c.requires in (p.0, p.1, p.2, omega (arith, numbers-most _ _ _ p.0 p.1 p.2, p.3))
-
--- the count is within the numbers
-within : (c : After-put_group-count) → (c.put_group-count.result ≤ length c.put_group-count.new.out) × (c.put_group-count.result ≤ 5992)
-within c =
-    let p = c.requires in
-    let w = c.put_group-count.ensures in
-    let most = numbers-most _ _ _ p.0 p.1 p.2 in
-    (omega (arith, w.1, p.3, wrote-length w.0 (omega (arith, w.0.counted, w.1, p.3))), omega (arith, w.1))
-
-pub slice_bounds-count_ends-end : goal.slice_bounds-count_ends-end
-slice_bounds-count_ends-end c = (within (goal.at.slice_bounds-count_ends-end c).After-put_group-count).0
-
-pub slice_bounds-count_ends-end-2 : goal.slice_bounds-count_ends-end-2
-slice_bounds-count_ends-end-2 c = sym (length-take-le _ _ (within (goal.at.slice_bounds-count_ends-end-2 c).After-put_group-count).0)
 
 -- and so are the clauses in them
 most : (c : After-count_ends) → c.count_ends.result ≤ 5992
@@ -46,7 +31,7 @@ most c =
 pub overflow_cast-result : goal.overflow_cast-result
 overflow_cast-result c = omega (arith, most c)
 
-pub returns : goal.returns
-returns c =
+pub returns-clause-value : goal.returns-clause-value
+returns-clause-value c =
     let w = c.put_group-count.ensures.0 in
-    record { value = (c.count_ends.ensures.0 ∙ ap (λ (zs : List ℤ). length (clauses_in zs)) (wrote-front w), most c); scratch = search rules }
+    (c.count_ends.ensures.0 ∙ ap (λ (zs : List ℤ). length (clauses_in zs)) (wrote-front w), most c)
