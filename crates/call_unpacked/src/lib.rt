@@ -95,12 +95,8 @@ pub fn copy_numbers(out: &mut [i32], numbers: &[i32]) -> usize
     requires { length numbers.now ≤ length out.old }
     ensures { Wrote numbers.now out.old out.new result }
 {
-    let mut i = 0;
-    while i < numbers.len() {
-        out[i] = numbers[i];
-        i += 1;
-    }
-    i
+    out[..numbers.len()].copy_from_slice(numbers);
+    numbers.len()
 }
 
 // Writes a group that is there, after the test of 9. How many numbers it has shows when it is written: into a slice without room

@@ -1,3 +1,2 @@
 pub mod WireTable
 pub mod Bits
-pub mod Codes

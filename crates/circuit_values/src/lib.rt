@@ -118,14 +118,14 @@ pub fn is_reading(values: &WireValues, net: Netlist, port_number: u32) -> bool
     code_value(values, of_port(port_number, net.re, net.re2))
 }
 
-// The number whose bits are the values of codes, by a table of the wires.
-fn number_of(values: &WireValues, codes: &[Code]) -> u32
-    requires { (length codes.now ≤ 32) × ((t : ℕ) → t < length codes.now → code_of codes.now t / 2 ≤ 600) }
-    ensures { result ≡ from_bits (length codes.now) (λ t. code_value (entry values.now) (code_of codes.now t)) }
+// The number whose bits are the values of the first `count` codes, by a table of the wires.
+fn code_bits(values: &WireValues, bits: &[Code], count: u32) -> u32
+    requires { (count ≤ 32) × (count ≤ length bits.now) × ((t : ℕ) → t < count → code_of bits.now t / 2 ≤ 600) }
+    ensures { result ≡ from_bits count (λ t. code_value (entry values.now) (code_of bits.now t)) }
 {
     let mut number = 0;
-    for (t, code) in codes.iter().enumerate() {
-        number = with_bit(number, t as u32, code_value(values, *code));
+    for t in 0..count {
+        number = with_bit(number, t, code_value(values, bits[t as usize]));
     }
     number
 }
@@ -135,11 +135,10 @@ pub fn address_of(values: &WireValues, net: Netlist, port_number: u32) -> u32
     requires { WithinLimits (alone net) × IsPort (alone net) port_number }
     ensures { result ≡ address_of (alone net) (port (alone net) port_number) (entry values.now) }
 {
-    let m = net.m as usize;
     if port_number == 1 {
-        return number_of(values, &net.address[..m]);
+        return code_bits(values, &net.address, net.m);
     }
-    number_of(values, &net.address2[..m])
+    code_bits(values, &net.address2, net.m)
 }
 
 // The word that is written where WE is true, by a table of the wires.
@@ -147,5 +146,5 @@ pub fn word_written(values: &WireValues, net: Netlist) -> u32
     requires { WithinLimits (alone net) }
     ensures { result ≡ word_written (alone net) (entry values.now) }
 {
-    number_of(values, &net.write_data[..net.n as usize])
+    code_bits(values, &net.write_data, net.n)
 }

@@ -11,7 +11,6 @@ use Rattle.model.proofs.Ports.{port-address}
 use Rattle.netlist.specs.NetOf.{code_of, net_of, alone}
 use Rattle.netlist.specs.WireTable.{entry}
 use Rattle.netlist.specs.declared.Netlist.{Netlist}
-use Rattle.circuit_values.proofs.Codes.{front-fits, front-number}
 use Rattle.circuit_values.proofs.address_of.Goals as goal
 
 -- the codes of a port are those of the first's array, or of the second's
@@ -23,42 +22,34 @@ second : (r : Netlist) (p t : ℕ) → (p ≡ 1 → ⊥) → (port (alone r) p).
 unfolding net_of
 second r p t e = port-address (alone r) p t ∙ rw (ne_eqb p 1 e)
 
-pub shared_ref_as_front-number_of : goal.shared_ref_as_front-number_of
+pub code_bits-requires : goal.code_bits-requires
 unfolding net_of
-shared_ref_as_front-number_of c = omega (arith, c.requires.0.sizes)
-
-pub number_of-requires : goal.number_of-requires
-unfolding net_of
-number_of-requires c =
+code_bits-requires c =
     let limits = c.requires.0 in
-    let p = c.args.port_number in
-    front-fits c.args.net.address c.args.net.m (omega (arith, limits.sizes)) (omega (arith, limits.sizes))
-    (λ t h. omega (arith, limits.sizes, limits.codes.address-fits p c.requires.1 t h, first c.args.net p t c.if-port_number-eq1.true))
+    let p = c.args.port_number in (
+      omega (arith, limits.sizes),
+      omega (arith, limits.sizes),
+      λ t h. omega (arith, limits.sizes, limits.codes.address-fits p c.requires.1 t h, first c.args.net p t c.if-port_number-eq1.true),
+    )
 
 pub returns-then-port_number-eq1 : goal.returns-then-port_number-eq1
 unfolding net_of address_of
 returns-then-port_number-eq1 c =
-    let v = entry c.args.values.now in
-    c.number_of.ensures
-    ∙ front-number c.args.net.address c.args.net.m (omega (arith, c.requires.0.sizes)) v
-    ∙ from_bits-same _ _ _ (λ t h. ap (code_value v) (sym (first c.args.net c.args.port_number t c.if-port_number-eq1.true)))
+    c.code_bits.ensures
+    ∙ from_bits-same _ _ _ (λ t h. ap (code_value (entry c.args.values.now)) (sym (first c.args.net c.args.port_number t c.if-port_number-eq1.true)))
 
-pub shared_ref_as_front-number_of-2 : goal.shared_ref_as_front-number_of-2
+pub code_bits-requires-2 : goal.code_bits-requires-2
 unfolding net_of
-shared_ref_as_front-number_of-2 c = omega (arith, c.requires.0.sizes)
-
-pub number_of-requires-2 : goal.number_of-requires-2
-unfolding net_of
-number_of-requires-2 c =
+code_bits-requires-2 c =
     let limits = c.requires.0 in
-    let p = c.args.port_number in
-    front-fits c.args.net.address2 c.args.net.m (omega (arith, limits.sizes)) (omega (arith, limits.sizes))
-    (λ t h. omega (arith, limits.sizes, limits.codes.address-fits p c.requires.1 t h, second c.args.net p t c.if-port_number-eq1.false))
+    let p = c.args.port_number in (
+      omega (arith, limits.sizes),
+      omega (arith, limits.sizes),
+      λ t h. omega (arith, limits.sizes, limits.codes.address-fits p c.requires.1 t h, second c.args.net p t c.if-port_number-eq1.false),
+    )
 
 pub returns : goal.returns
 unfolding net_of address_of
 returns c =
-    let v = entry c.args.values.now in
-    c.number_of-2.ensures
-    ∙ front-number c.args.net.address2 c.args.net.m (omega (arith, c.requires.0.sizes)) v
-    ∙ from_bits-same _ _ _ (λ t h. ap (code_value v) (sym (second c.args.net c.args.port_number t c.if-port_number-eq1.false)))
+    c.code_bits-2.ensures
+    ∙ from_bits-same _ _ _ (λ t h. ap (code_value (entry c.args.values.now)) (sym (second c.args.net c.args.port_number t c.if-port_number-eq1.false)))
