@@ -11,10 +11,12 @@ ghost use Rattle.model.specs.Wrote.{Wrote};
 use clause_writer::{put_binary, put_quinary, put_ternary, put_three_numbers, put_two_numbers};
 use literals::{Lit, Term};
 
-// What clauses are written of: terms, or numbers, of which none is tested. The functions over both are made for each.
+// What clauses are written of: terms, or numbers, which are no constants, so that none is tested. A function over this trait is compiled for each.
 trait ClauseLiteral: Copy {
+    // Which literal it is.
     ghost means: { Self → Literal };
 
+    // That it has such a number as a literal has.
     ghost can_stand: { Self → Type 0 };
 
     // ¬ of the rules.
