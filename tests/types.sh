@@ -32,7 +32,7 @@ crates/invariant_writer/src/lib.rt out[0] = invariant_terms::number_of(a)
 crates/invariant_writer/src/lib.rt out[1] = invariant_terms::number_of(b)
 crates/invariant_writer/src/lib.rt out[2] = invariant_terms::number_of(c)
 crates/invariant_writer/src/lib.rt out[3] = invariant_terms::number_of(d)
-crates/invariant_start/src/lib.rt return is_same(latches[2 * (j as usize) + 1] == 1, value)
+crates/invariant_start/src/lib.rt return (latches[2 * (j as usize) + 1] == 1) == value
 # what a sheet has is stored
 crates/sheet_steps/src/lib.rt next.address[at].0 = first
 crates/sheet_steps/src/lib.rt next.write_data[at].0 = first
@@ -45,7 +45,7 @@ crates/sheet_steps/src/lib.rt netlist::put_numbers(latches, l as usize, first, s
 crates/sheet_steps/src/lib.rt netlist::put_numbers(gates, g as usize, first, second)
 # a literal of a text of AIGER becomes the code of the wire that a table has for it, and is stored
 crates/aiger_codes/src/lib.rt return Wire(w)
-crates/aiger_codes/src/lib.rt Wire(w)
+crates/aiger_codes/src/lib.rt Wire(601)
 crates/aiger_codes/src/lib.rt Code(2 * wire.0 + literal % 2)
 crates/aiger_codes/src/lib.rt netlist::put_numbers(list, x as usize, left.0, right.0)
 # what a list of records has is stored, and delivered
@@ -86,7 +86,7 @@ crates/sheet_one_port/src/lib.rt codes[i] = one_code(net, Code(codes[i])).0
 # the second number of a latch is its reset, no code
 crates/aiger_export/src/lib.rt if latches[at] == 1
 crates/netlist/src/lib.rt latch_fault(last, Code(latches[at]), latches[at + 1])
-crates/netlist_scan/src/lib.rt any = any | netlist::latch_fault(last, Code(latches[at]), latches[at + 1])
+crates/netlist_scan/src/lib.rt any |= netlist::latch_fault(last, Code(latches[2 * l]), latches[2 * l + 1])
 crates/group_latches/src/lib.rt let reset = latches[(2 * l + 1) as usize]
 crates/replay_run/src/lib.rt state[l] = latches[2 * l + 1] == 1'
 lists='latches|gates|codes|latch_codes|gate_codes|list'

@@ -8,7 +8,6 @@ use Rattle.netlist.specs.declared.Netlist.{Netlist}
 use Rattle.aiger_codes.specs.Outputs.{output_code, with_second}
 use Rattle.aiger_codes.proofs.Outputs.{coded-next, output-at}
 use Rattle.aiger_codes.proofs.put_second_address.Goals as goal
-use Rattle.aiger_codes.proofs.put_second_address.Goals.{Start}
 
 pub loop-t-preserved : goal.loop-t-preserved
 loop-t-preserved c = (

@@ -1,7 +1,7 @@
 -- `aiger_export::export_binary` meets its contract: the tests of the record; the file aside, then the room and the copy.
 
 use Prim.Native.Nat.{◌≤◌}
-use mathlib.Core.Path.{◌≡◌, sym, ◌∙◌}
+use mathlib.Core.Path.{◌≡◌, sym}
 use native.Mathlib.Omega.{arith}
 use borrow.Author.Rules.{rules}
 use lib.ListN.{length, take}
@@ -18,7 +18,7 @@ use Rattle.aiger_export.specs.ExportCall.{export_text, test_export, export_verdi
 use Rattle.aiger_export.proofs.ExportCall.{accepted, single-port}
 use Rattle.aiger_export.proofs.Exported.{exported}
 use Rattle.aiger_export.proofs.export_binary.Goals as goal
-use Rattle.aiger_export.proofs.export_binary.Goals.{After-put_file-count, In_default}
+use Rattle.aiger_export.proofs.export_binary.Goals.{After-put_file-count}
 
 pub returns-in_err-test_export : goal.returns-in_err-test_export
 unfolding count_reply export_verdict export_sent export_leaves with_count contents_after ◌then◌

@@ -6,7 +6,6 @@ use Rattle.answer_scan.specs.Scan.{line_begun}
 use Rattle.answer_scan.proofs.Ahead.{ahead-comment}
 use Rattle.answer_scan.proofs.Steps.{holds-short, line_taken, passed-taken, number-taken}
 use Rattle.answer_scan.proofs.scan_byte.Goals as goal
-use Rattle.answer_scan.proofs.scan_byte.Goals.{else-byte-eq32-via-then-byte-eq32+else-is_marked, else-byte-eq32-via-else-byte-eq32}
 
 pub returns-then-byte-eq10 : goal.returns-then-byte-eq10
 returns-then-byte-eq10 c =

@@ -1,6 +1,6 @@
 -- `call_position::test_numbering` meets its contract: the first test that refuses answers.
 
-use mathlib.Core.Path.{sym, ◌∙◌}
+use mathlib.Core.Path.{sym}
 use borrow.Author.Tests.{le-ltb, lt-ltb}
 use Rattle.std.proofs.lemmas.Result.{err_from_is_err_and}
 use Rattle.refusals.specs.Tests.{◌then◌}

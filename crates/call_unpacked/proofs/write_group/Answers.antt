@@ -1,6 +1,6 @@
 -- `call_unpacked::write_group` meets its contract: the tests up to 8, then what is left of the call.
 
-use mathlib.Core.Path.{sym, ◌∙◌}
+use mathlib.Core.Path.{sym}
 use lib.ListN.{length}
 use Rattle.std.proofs.lemmas.Result.{err_from_is_err_and}
 use Rattle.refusals.specs.Tests.{◌then◌}
