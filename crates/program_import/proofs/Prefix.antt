@@ -234,7 +234,7 @@ refused-at test (suc n) {r} {p} e = by-rest (in_order test n) refl (λ h. refuse
         → (in_order test n ≡ refuse r p → (k : ℕ) × (1 ≤ k) × (k ≤ n) × (in_order test k ≡ refuse r p) × (test k ≡ refuse r p))
         → (k : ℕ) × (1 ≤ k) × (k ≤ suc n) × (in_order test k ≡ refuse r p) × (test k ≡ refuse r p)
     by-rest (Ok _) h earlier = (suc n, omega arith, omega arith, e, sym (in_order-suc test n h) ∙ e)
-    by-rest (refuse r' p') h earlier =
+    by-rest (Err f) h earlier =
         let found = earlier (h ∙ sym (in_order-kept test n (suc n) (omega arith) h) ∙ e) in
         (found.0, found.1, omega (arith, found.2), found.3, found.4)
 

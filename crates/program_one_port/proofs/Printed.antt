@@ -99,7 +99,7 @@ module _ (file old : List ℕ) (room : 20064 ≤ length old) where
       let passed = sym verdict-tests ∙ told.0 in
       (rw passed (record { counted = told.1; leaves = leaves ∙ rw told.0 }), omega (arith, told.1, text-most file passed))
 
-  pub output-refused : (r : Refusal) (p : ℕ) {new : List ℕ} → count_reply (refuse r p) ≡ one_port_sent file (length old)
+  pub output-refused : (r : Refusal) (p : ℕ) {new : List ℕ} → count_reply (Err (record { 0 = r; 1 = p })) ≡ one_port_sent file (length old)
       → new ≡ one_port_leaves file old → (one_port_output file ≡ refusal_text (refusal_number r) p) × (new ≡ old)
   unfolding count_reply one_port_sent one_port_leaves one_port_output
   output-refused r p sent leaves =

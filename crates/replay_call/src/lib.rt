@@ -24,6 +24,7 @@ pub enum Replayed {
     ClaimedUnsatisfiable,
 }
 
+// What a replay answers: what it finds, or the refusal with its place.
 pub type ReplayAnswer = Result<Replayed, Refused>;
 
 // The same in numbers: number and place of a refusal, both 0 where nothing is refused; 1 where the answer claims that there is none; and

@@ -18,7 +18,7 @@ use Rattle.aiger_export.specs.ExportCall.{export_text, test_export, export_verdi
 use Rattle.aiger_export.proofs.ExportCall.{accepted, single-port}
 use Rattle.aiger_export.proofs.Exported.{exported}
 use Rattle.aiger_export.proofs.export_binary.Goals as goal
-use Rattle.aiger_export.proofs.export_binary.Goals.{After-put_file-count}
+use Rattle.aiger_export.proofs.export_binary.Goals.{After-put_file-count, In_ok-test_export}
 
 pub returns-in_err-test_export : goal.returns-in_err-test_export
 unfolding count_reply export_verdict export_sent export_leaves with_count contents_after ◌then◌

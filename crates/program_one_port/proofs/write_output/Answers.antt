@@ -13,7 +13,7 @@ pub write_refusal-requires : goal.write_refusal-requires
 write_refusal-requires c =
     let converted = c.convert-answer.ensures in
     let kept = (output-refused c.args.file.now c.args.out.now c.requires _ _ (ap count_reply (sym c.in-Err.is) ∙ converted.answer) converted.borrowed).1 in
-    rw kept (omega (arith, c.requires, length-refusal_text c.number.result c.in-Err.place (search rules) (search rules)))
+    rw kept (omega (arith, c.requires, length-refusal_text c.number.result c.in-Err.field-0.1 (search rules) (search rules)))
 
 pub returns-in-Ok : goal.returns-in-Ok
 returns-in-Ok c =
@@ -27,7 +27,7 @@ returns-in-Err c =
     let q = output-refused c.args.file.now c.args.out.now c.requires _ _ (ap count_reply (sym c.in-Err.is) ∙ converted.answer) converted.borrowed in
     let w = c.write_refusal.ensures in record {
       text = rw q.0 (rw (c.number.ensures, q.1) at w);
-      most = omega (arith, w.counted, length-refusal_text c.number.result c.in-Err.place (search rules) (search rules));
+      most = omega (arith, w.counted, length-refusal_text c.number.result c.in-Err.field-0.1 (search rules) (search rules));
       converted = one-port-theorem;
       refusals = only-due;
     }
