@@ -18,7 +18,11 @@ use netlist::{Netlist, UnpackedList};
 fn count_ends(numbers: &[i32]) -> usize
     ensures { (result ≡ length (clauses_in numbers.now)) × (result ≤ length numbers.now) }
 {
-    numbers.iter().filter(|z| **z == 0).count()
+    let mut ends = 0;
+    for &z in numbers {
+        ends += usize::from(z == 0);
+    }
+    ends
 }
 
 // The clauses of a group that are written. `numbers` is scratch: nothing is said of what it holds.

@@ -1,15 +1,18 @@
--- `group_counts::count_ends` meets its contract: each clause ends with the one end mark.
+-- `group_counts::count_ends` meets its contract. The loop has counted the end marks passed.
 
-use mathlib.Core.Path.{◌≡◌, sym, ◌∙◌}
+use mathlib.Core.Path.{sym, ◌∙◌, ap}
+use mathlib.Core.List.{List}
+use native.Mathlib.Omega.{arith}
 use lib.Dec.{eqb}
 use lib.IntN.{ℤ}
-use borrow.Author.Rules.{rules}
+use lib.Seq.{take_all}
 use Rattle.std.specs.Prelude.{nat_abs, count_by}
-use Rattle.std.proofs.lemmas.List.Sums.{count_by-le-length}
 use Rattle.group_counts.proofs.Counted.{ends-counted}
 use Rattle.group_counts.proofs.count_ends.Goals as goal
 
 pub returns : goal.returns
 returns c =
-    let counted : c.count.result ≡ count_by (λ (z : ℤ). eqb (nat_abs z) 0) c.args.numbers.now = search rules in
-    (counted ∙ sym (ends-counted c.args.numbers.now), rw counted (count_by-le-length _ _))
+    let numbers : List ℤ = c.args.numbers.now in (
+      c.loop-z.invariant.0 ∙ ap (count_by (λ (z : ℤ). eqb (nat_abs z) 0)) (take_all c.loop-z.z-index numbers (omega arith)) ∙ sym (ends-counted numbers),
+      omega (arith, c.loop-z.invariant.1),
+    )
