@@ -12,6 +12,8 @@ check "the header declares the exported functions" same "$(exported)" "$(called 
 check "the test calls the exported functions" same "$(exported)" "$(called tests/header/main.c | grep -vx $own)"
 check "the runner declares each of them once" same "$(exported)" "$(grep -hoE 'fn marrubigai_[a-z_]+' tests/runner/*.rs | sed 's/^fn //' | sort)"
 
+check "from outside the library needs memcpy and memset alone" same "memcpy memset" "$(nm -u target/staticlib/libmarrubigai.a | awk '$1 == "U" { print $2 }' | sort -u | xargs)"
+
 # The header's refusals are the rows of the library's page, MARRUBIGAI_ and the word; the test has each of them.
 rows() {
   sed -n '/^## Refusals$/,$p' docs/LIBRARY.md | sed -n 's/^| \([0-9][0-9]*\) \([a-z ]*\) |.*/\2=\1/p' | tr 'a-z ' 'A-Z_' | sed 's/=/ = /'
