@@ -1,5 +1,5 @@
 -- What a call that prints a text sends back and leaves (RULES L3, L9, T43 and T44): 9 is its only test. Cited by `put_header`,
--- `put_clauses`, `put_refusal` and `put_number`, here and in `marrubigai`, and by `count_numbers`.
+-- `put_clauses`, `put_refusal` and `put_number`, here and in `marrubigai`.
 use Rattle.std.specs.Prelude.{ℕ, List, length}
 use Rattle.refusals.specs.Tests.{if_passed}
 use Rattle.refusals.specs.Slices.{test_room, with_count, contents_after}
