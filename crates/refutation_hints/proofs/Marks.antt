@@ -11,24 +11,14 @@ use lib.ListN.{length, get_or, set, replicate}
 use lib.Seq.{get_or-set_same, get_or-set_other}
 use lib.Signed.{mag}
 use mir.Syntax.{w32}
-use mir.Val.{SFits, to_z, of_z}
+use mir.Val.{to_z, of_z}
 use mir.ValLaws.{to_z-of_z}
 use Rattle.model.proofs.Booleans.{iff-eq}
-use Rattle.decimal.proofs.Signed.{nat_abs-fits}
-use Rattle.text_writer.specs.Signed.{parts_of}
 use Rattle.answer_signs.specs.Signs.{same_number}
 use Rattle.refutation_hints.specs.Propagation.{within}
 use Rattle.refutation_hints.specs.Marks.{slot_of, false_in, UpTo, Before, joined_code}
 
--- the slot of a number from its parts, its bound, and that of a number that a machine read from a slice
-pub slot-parts : (z : ℤ) → (parts_of z).value * 2 + (parts_of z).sign ≡ slot_of z
-slot-parts (pos v) = omega arith
-slot-parts (negsuc v) = omega arith
-
-pub slot-most : (z : ℤ) → SFits w32 z → slot_of z < 8589934592
-slot-most (pos v) f = omega (arith, (nat_abs-fits (pos v) f).fits)
-slot-most (negsuc v) f = omega (arith, (nat_abs-fits (negsuc v) f).fits)
-
+-- the slot of a number that a machine read from a slice
 pub slot_read : (zs : List ℤ) (i : ℕ) → mag (get_or zs i (pos 0)) < 2 ^ 31
     → slot_of (to_z w32 (of_z w32 (get_or zs i (pos 0)))) ≡ slot_of (get_or zs i (pos 0))
 slot_read zs i h = ap slot_of (to_z-of_z w32 (get_or zs i (pos 0)) (record { sfits = h }))

@@ -1,17 +1,14 @@
 -- Laws of specs/Ends.antt: the first clause of a list of numbers ends there, and one number more before that. No contract cites this file.
 use Prim.Native.Nat.{ℕ, zero, suc, ◌+◌, ◌≤◌, ◌<◌}
 use mathlib.Core.Path.{◌≡◌, refl, ap, ◌∙◌}
-use mathlib.Core.Bool.{true, false≢true}
 use mathlib.Core.List.{List, [], ◌∷◌, ◌++◌}
-use native.Mathlib.Numerals.{add-one}
 use native.Mathlib.Omega.{arith}
 use lib.IntN.{ℤ, pos, negsuc}
-use lib.ListN.{length, get_or, take, drop, drop_of_length-le}
-use lib.Seq.{drop-cons}
+use lib.ListN.{length, take, drop, drop_of_length-le}
 use Rattle.model.specs.Numbers.{split_after, clauses_in}
 use Rattle.refutation_hints.specs.Marks.{slot_of}
 use Rattle.refutation_hints.proofs.Marks.{slot-zero}
-use Rattle.refutation_hints.proofs.Clauses.{is_number, number-of-slot, on_first, split-first}
+use Rattle.refutation_hints.proofs.Clauses.{on_first, split-first}
 use Rattle.refutation_lemmas.specs.Ends.{before_end}
 
 -- the first clause is what stands before the first end mark; where there is no end mark, there is no clause
@@ -38,22 +35,16 @@ clause-ended (pos zero ∷ zs) l = refl
 clause-ended (pos (suc v) ∷ zs) l = ap (λ (x : List ℤ). pos (suc v) ∷ x) (clause-ended zs (omega arith))
 clause-ended (negsuc v ∷ zs) l = ap (λ (x : List ℤ). negsuc v ∷ x) (clause-ended zs (omega arith))
 
--- a place in a list: an end mark stands there, or one number more before the first
-pub ends_at : (zs : List ℤ) (i : ℕ) → i < length zs → slot_of (get_or zs i (pos 0)) ≡ 0 → before_end (drop i zs) ≡ 0
+-- a first number that is an end mark, or one number more before the first
+pub before_end-mark : (z : ℤ) (zs : List ℤ) → slot_of z ≡ 0 → before_end (z ∷ zs) ≡ 0
 unfolding before_end
-ends_at zs i l e = rw (drop-cons zs i (pos 0) l, slot-zero (get_or zs i (pos 0)) e)
+before_end-mark z zs e = rw (slot-zero z e)
 
-before_end-number : (z : ℤ) (zs : List ℤ) → is_number z ≡ true → before_end (z ∷ zs) ≡ suc (before_end zs)
-unfolding before_end is_number
-before_end-number (pos zero) zs h = absurd (false≢true h)
-before_end-number (pos (suc v)) zs h = refl
-before_end-number (negsuc v) zs h = refl
-
-pub goes_on : (zs : List ℤ) (i : ℕ) → i < length zs → (slot_of (get_or zs i (pos 0)) ≡ 0 → ⊥)
-    → before_end (drop i zs) ≡ suc (before_end (drop (i + 1) zs))
-goes_on zs i l d =
-    rw (add-one, drop-cons zs i (pos 0) l)
-    (before_end-number (get_or zs i (pos 0)) (drop (suc i) zs) (number-of-slot (get_or zs i (pos 0)) d))
+pub before_end-number : (z : ℤ) (zs : List ℤ) → (slot_of z ≡ 0 → ⊥) → before_end (z ∷ zs) ≡ before_end zs + 1
+unfolding before_end
+before_end-number (pos zero) zs h = absurd (h refl)
+before_end-number (pos (suc v)) zs h = omega arith
+before_end-number (negsuc v) zs h = omega arith
 
 pub ended : (zs : List ℤ) (i : ℕ) → length zs ≤ i → before_end (drop i zs) ≡ 0
 unfolding before_end

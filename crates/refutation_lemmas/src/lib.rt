@@ -19,12 +19,14 @@ pub enum Checked {
 fn clause_end(store: &[i32], at: usize) -> usize
     ensures { result ≡ at + before_end (drop at store.now) }
 {
-    for i in at..store.len() {
-        if refutation_hints::slot(store[i]) == 0 {
-            return i;
-        }
+    if store.len() <= at {
+        return at;
     }
-    at.max(store.len())
+    let rest = &store[at..];
+    at + rest
+        .iter()
+        .position(|&z| refutation_hints::slot(z) == 0)
+        .unwrap_or(rest.len())
 }
 
 // Whether the lemma between two places of the store follows by the hints from place `first` on, of which there are to be `count`.

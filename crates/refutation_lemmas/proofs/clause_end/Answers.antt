@@ -1,37 +1,24 @@
--- `refutation_lemmas::clause_end` meets its contract. No end mark stands between the place asked for and the loop's.
+-- `refutation_lemmas::clause_end` meets its contract: before the first end mark stand as many numbers as `position` passes.
 
-use mathlib.Core.Path.{◌≡◌, refl, ◌∙◌}
+use mathlib.Core.Path.{◌≡◌, refl}
 use native.Mathlib.Omega.{arith}
-use lib.IntN.{pos}
-use lib.ListN.{get_or}
+use lib.ListN.{drop}
+use Rattle.std.proofs.Common.{rules, tests}
+use Rattle.std.proofs.lemmas.List.{take_rest}
+use Rattle.std.proofs.lemmas.Iterator.{YieldsList-from_slice, IsFirst-from_position, index_from_first}
 use Rattle.refutation_hints.specs.Marks.{slot_of}
-use Rattle.refutation_hints.proofs.Marks.{slot_read}
-use Rattle.refutation_lemmas.proofs.Ends.{ends_at, goes_on, ended}
+use Rattle.refutation_lemmas.specs.Ends.{before_end}
+use Rattle.refutation_lemmas.proofs.Ends.{before_end-mark, before_end-number, ended}
 use Rattle.refutation_lemmas.proofs.clause_end.Goals as goal
-use Rattle.refutation_lemmas.proofs.clause_end.Goals.{After-slot}
 
--- what is read at the loop's place
-read : (c : After-slot) →
-    c.slot.result ≡ slot_of (get_or c.args.store.now c.loop-i.i (pos 0))
-read c =
-    c.slot.ensures
-    ∙ slot_read c.args.store.now c.loop-i.i (omega arith)
-
-pub loop-i-init : goal.loop-i-init
-loop-i-init c = (omega arith, refl)
-
-pub returns-then-slot-eq0 : goal.returns-then-slot-eq0
-returns-then-slot-eq0 c =
-    let store = c.args.store.now in
-    let here = c.loop-i-test.true in
-    omega (arith, c.loop-i.invariant.1, ends_at store c.loop-i.i here (rw (read (goal.at.returns-then-slot-eq0 c).After-slot) at c.if-slot-eq0.true))
-
-pub loop-i-preserved : goal.loop-i-preserved
-loop-i-preserved c =
-    let store = c.args.store.now in
-    let here = c.loop-i-test.true in
-    (omega arith, omega (arith, c.loop-i.invariant.1, goes_on store c.loop-i.i here (rw (read (goal.at.loop-i-preserved c).After-slot) at c.if-slot-eq0.false)))
+pub returns-then-store-at : goal.returns-then-store-at
+returns-then-store-at c = omega (arith, ended c.args.store.now c.args.at c.if-store-at.true)
 
 pub returns : goal.returns
+unfolding before_end
 returns c =
-    omega (arith, c.loop-i.invariant.1, ended c.args.store.now c.loop-i.i c.loop-i-test.false)
+    let rest = drop c.args.at c.args.store.now in
+    let first = IsFirst-from_position _ _ c.position.result (λ z. slot_of z ≡ 0) (λ z. slot_of z ≡ 0 → ⊥) c.position.ensures.ran (YieldsList-from_slice rest (search (rules, take_rest)))
+    (λ x q k. search (rules, tests)) (λ x q k. search (rules, tests)) in
+    let is = index_from_first before_end (λ z. slot_of z ≡ 0) (λ z. slot_of z ≡ 0 → ⊥) refl before_end-mark before_end-number rest c.position.result first in
+    omega (arith, is, rw (take_rest c.args.store.now c.args.at) at c.unwrap_or.ensures)
